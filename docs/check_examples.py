@@ -102,7 +102,7 @@ class Page:
         if EXAMPLES in self.path.resolve().parents:
             self.place = room / self.path.resolve().parent.relative_to(EXAMPLES.parent)
         shutil.copytree(EXAMPLES, room / "examples", ignore=shutil.ignore_patterns("*.pex"))
-        helpers = f'case ${{1-}} in help) exec python3 "{TOOLS}/words.py" "$@" ;; explain | view | explore) helper=$1; shift; PAPYRUS_PROGRAM="{self.program}" exec python3 "{TOOLS}/$helper.py" "$@" ;; esac'
+        helpers = f'case ${{1-}} in help) exec python3 "{TOOLS}/words.py" "$@" ;; explain | view | picture | explore) helper=$1; shift; PAPYRUS_PROGRAM="{self.program}" exec python3 "{TOOLS}/$helper.py" "$@" ;; esac'
         (room / "papyrus").write_text(f'#!/bin/sh\n{helpers}\nexec "{self.program}" "$@"\n')
         (room / "papyrus").chmod(0o755)
 

@@ -1,5 +1,5 @@
 #!/usr/bin/env python3
-"""Checks the pictures of `papyrus view`, prints what is wrong, and ends with 'N passed, M failed'.
+"""Checks the pictures of `papyrus view` and `papyrus picture`, prints what is wrong, and ends with 'N passed, M failed'.
 
   check_pictures.py                  all of these
   check_pictures.py --program PATH   another program than PAPYRUS_PROGRAM in the environment, or the one that was built last
@@ -10,6 +10,9 @@
              and of reports that are made; and reports that were changed are refused
   refusals   a journal that `papyrus waits` refuses gets the same line and status, and reports of other runs are refused
   cut        of a long run the first 20,000 turns are drawn, and the page says so
+  picture    what `picture` draws of each example, of its scripts and of its compiled files, has the journal of the run, all that its reports tell, and the
+             calls of the scene; stacks that don't end stand on top, and instances that nobody touches are folded away; files and words are refused as the
+             program refuses them, and no other file is written
 """
 import argparse
 import collections
@@ -28,8 +31,10 @@ sys.path[:0] = [str(DOCS), str(ROOT / "tools")]
 import check_examples
 import check_pages
 import journal_texts
+import picture
 import picture_files
 import view
+from drawing import running
 
 QUARTERS = picture_files.QUARTERS
 MADE, TOLD, SPOILED = 200, 40, 600
@@ -352,6 +357,97 @@ def check_cut(tally, room):
         tally.note("" if picture.cells[5] == f"{6 + 2 + turns - 2 - 6 + 3:,}" else f"the table of a long run isn't that of all turns: {picture.cells}")
 
 
+def pictured(words, program):
+    """The picture that `picture` draws, or the status and the line of its refusal."""
+    try:
+        return picture.drawn([str(word) for word in words], program)
+    except running.Refused as refused:
+        return refused.status, refused.notes
+
+
+def calls_of(scene):
+    """How the rows of the stacks are called, by the scene."""
+    order = sorted(enumerate(scene["calls"]), key=lambda one: (one[1]["turn"], one[0]))
+    return [f"{call['instance']}.\u200b{call['function']}" for _, call in order]
+
+
+def ends_fault(found, report, text):
+    """What the picture tells of stacks that don't end and of instances that nobody touches otherwise than report and journal, or nothing."""
+    statuses = re.findall(r"^stack \d+ (.*)$", report, re.MULTILINE)
+    going = [f"stack {stack} " for stack, status in enumerate(statuses) if status != "done"]
+    heading = re.search(r"(\d+) of (\d+) stacks? do(?:es)?n't end", found.look)
+    told = tuple(map(int, heading.groups())) if heading else (0, len(statuses))
+    if told != (len(going), len(statuses)) or not all(one in found.look for one in going[:10]):
+        return f"{told} stacks are told not to end, and not {going}"
+    touched = {int(line.split()[2]) for line in text.decode().splitlines() if line.startswith(("join", "take"))}
+    folded = [at for at, row in enumerate(found.of_kind("instance")) if row.folded]
+    changed = {row.anchor for row in found.rows if row.kind == "value"}
+    return "" if folded == [at for at in range(len(found.of_kind("instance"))) if at not in touched] or changed else f"the instances {folded} are folded away"
+
+
+def command_fault(run, program):
+    """What `picture` draws of an example otherwise than its journal, its reports and its scene tell, or nothing."""
+    page = pictured([run.folder / "scene.json", *(run.folder / script.name for script in run.scripts)], program)
+    again = pictured([run.folder / "scene.json", *(run.folder / script.with_suffix(".pex").name for script in run.scripts)], program)
+    if isinstance(page, tuple) or page != again:
+        return f"picture: {page if isinstance(page, tuple) else 'of compiled files is another one'}"
+    found, text, report = picture_files.Picture(page), (run.folder / "journal").read_bytes(), run.report.read_text()
+    turns = int(re.search(r"^turns (\d+)$", report, re.MULTILINE)[1])
+    if found.journal() != text or found.wrong:
+        return f"picture: another journal, or {found.wrong}"
+    names = [row.name.split("(")[0] for row in found.of_kind("stack")]
+    if names != calls_of(run.scene)[: len(names)]:
+        return f"picture: the stacks are called {names}"
+    reports = [*map(run.after, range(turns)), run.report] if turns <= FIRST_TURNS else []
+    return (values_fault(found, reports) if reports else "") or printed_fault(found, run.report) or ends_fault(found, report, text)
+
+
+def check_command_refusals(tally, program, run):
+    """Words and files that `picture` refuses as the program refuses them."""
+    folder, scene = run.folder, run.folder / "scene.json"
+    script, compiled = folder / run.scripts[0].name, folder / run.scripts[0].with_suffix(".pex").name
+    (folder / "Faulty.psc").write_text("ScriptName Faulty\nInt n = 1.5\n")
+    (folder / "unknown.json").write_text(json.dumps({**run.scene, "instances": [{"name": "x", "script": "Nobody"}], "calls": []}))
+    for command, words in (("run", [scene, script, folder / "Faulty.psc"]), ("run", [scene, folder / "missing.psc"]), ("run", [folder / "missing.json", script]),
+                           ("run", [script, script]), ("run", [folder / "unknown.json", script]), ("run", [scene, script, script]), ("run", [scene]), ("run", []), ("run", ["", script]),
+                           ("exec", [scene, scene]), ("exec", [scene, folder / "missing.pex"]), ("exec", [folder / "unknown.json", compiled]), ("exec", [scene, compiled, compiled])):
+        status, _, notes = ran(program, [command, *map(str, words)], folder)
+        found = pictured(words, program)
+        tally.note("" if found == (status, notes) and status else f"picture {words}: {str(found)[:200]}, and {command}: {(status, notes)}")
+    tally.note("" if pictured([scene, script, compiled], program) == (2, b"papyrus: usage\n") else "picture takes scripts and compiled files at once")
+
+
+def check_limits(tally, program, run):
+    """Behind the most turns of which reports are made, and where a run can't be held, the picture is the same as far as it is known."""
+    words = [run.folder / "scene.json", *(run.folder / script.name for script in run.scripts)]
+    whole, most, stride, held = pictured(words, program), running.MOST_REPORTS, running.STRIDE, running.Run.held
+    running.STRIDE = 2
+    tally.note("" if pictured(words, program) == whole else "picture: with other strides it is another one")
+    running.Run.held = lambda self, turns: (b"", None)
+    tally.note("" if pictured(words, program) == whole else "picture: without held runs it is another one")
+    running.STRIDE, running.Run.held, running.MOST_REPORTS = stride, held, 4
+    found = picture_files.Picture(pictured(words, program))
+    known = [[(bar.begin, bar.length) for bar in row.bars()] for row in found.of_kind("value")]
+    running.MOST_REPORTS = most
+    turns = picture_files.Picture(whole).turns
+    tally.note("" if known and all(row == [(0, 12), (4 * turns - 4, 4)] for row in known) else f"picture: with few reports it knows {known}")
+
+
+def check_command(tally, program, room):
+    for number, (name, (scene, scripts)) in enumerate(examples().items()):
+        folder = room / f"command{number}"
+        folder.mkdir()
+        run = Run(program, folder, scene, scripts)
+        before = {path.name for path in folder.iterdir()}
+        fault = run.wrong or command_fault(run, program)
+        tally.note(fault and f"{name}: {fault}")
+        written = {path.name for path in folder.iterdir()} - before - {f"after{turn}" for turn in range(FIRST_TURNS)} - {"cut.json"}
+        tally.note("" if not written else f"{name}: picture writes {written}")
+        if name == "examples/lost_update: scene.json Chest.psc":
+            check_command_refusals(tally, program, run)
+            check_limits(tally, program, run)
+
+
 def check_words(tally, room):
     """The statuses of words and files."""
     (room / "text").write_text("no report\n")
@@ -382,6 +478,7 @@ def main():
         check_cut(tally, room)
         check_told(tally, room)
         check_examples_of(tally, program, room)
+        check_command(tally, program, room)
         check_made(tally, program, room)
         check_refusals(tally, program, room)
     print("\n".join([*tally.wrong, f"{tally.passed} passed, {len(tally.wrong)} failed"]))

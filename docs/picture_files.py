@@ -1,4 +1,4 @@
-"""Reads a picture of `papyrus view` back from its HTML file, and the journal of the run from that."""
+"""Reads a picture of `papyrus view` or `papyrus picture` back from its HTML file, and the journal of the run from that."""
 import collections
 import html.parser
 import re
@@ -13,8 +13,8 @@ Bar = collections.namedtuple("Bar", "kind begin length title text")
 class Row:
     """A row with the bars of each lane, and the text of its panel."""
 
-    def __init__(self, anchor, kind):
-        self.anchor, self.kind, self.lanes = anchor, kind, []
+    def __init__(self, anchor, kind, folded=False):
+        self.anchor, self.kind, self.folded, self.lanes = anchor, kind, folded, []
         self.name, self.heading, self.panel = "", "", ""
 
     def bars(self, kind=""):
@@ -50,7 +50,7 @@ class Picture(html.parser.HTMLParser):
         if kind == "sheet":
             self.turns = int(style["t"])
         elif kind.split()[:1] == ["row"]:
-            self.rows.append(Row(values.get("id", ""), kind.split()[1]))
+            self.rows.append(Row(values.get("id", ""), kind.split()[1], "untouched" in kind.split()))
         elif kind.split()[:1] == ["lane"]:
             self.rows[-1].lanes.append([])
         elif tag in ("i", "u") and self.rows and "lane" in dict(self.open[-2:-1]).get("div", ""):

@@ -12,7 +12,7 @@ import os
 import signal
 import sys
 
-from picture import bars, journal, page, report
+from drawing import bars, journal, page, report, words
 
 
 class Refused(Exception):
@@ -38,24 +38,30 @@ def read_report(name):
         raise Refused(2, f"papyrus: {name} is no report") from None
 
 
-def drawn(words):
+def gathered(data, reports):
+    """Where the stacks stand behind the lines of a journal, and its bars; the reports keep what they are compared with."""
+    standing, recorder = journal.Standing(), bars.Recorder()
+    for line in journal.lines_of(data, standing):
+        recorder.note(line)
+        if line.word in ("turn", "end"):
+            reports.note(standing, line.numbers[0])
+    return standing, recorder
+
+
+def drawn(given):
     """The picture that these words ask for."""
-    if not words or not all(words):
+    if not given or not all(given):
         raise Refused(2, "papyrus: usage")
-    name, *others = words
+    name, *others = given
     data = contents(name, journal.MOST_BYTES + 1)
     reports = report.Reports([read_report(other) for other in others])
-    standing, recorder = journal.Standing(), bars.Recorder()
     try:
-        for line in journal.lines_of(data, standing):
-            recorder.note(line)
-            if line.word in ("turn", "end"):
-                reports.note(standing, line.numbers[0])
+        standing, recorder = gathered(data, reports)
     except journal.Broken as broken:
         raise Refused(12, f"{name}:{broken}") from None
     if not reports.fit(standing.names):
         raise Refused(2, f"papyrus: not the {'report' if len(others) == 1 else 'reports'} of the run of {name}")
-    return page.page(f"The run of {os.path.basename(name)}", recorder, standing.names, standing.statuses(), reports)
+    return page.page(f"The run of {os.path.basename(name)}", recorder, words.Names(standing.names), standing.statuses(), reports)
 
 
 def put(stream, data):
@@ -68,16 +74,21 @@ def put(stream, data):
     return True
 
 
+def written(picture):
+    """The status where a picture goes to standard output."""
+    if put(1, picture.encode("utf-8", "surrogateescape")):
+        return 0
+    put(2, b"papyrus: cannot write\n")
+    return 4
+
+
 def main():
     signal.signal(signal.SIGPIPE, signal.SIG_DFL)
     try:
         picture = drawn(sys.argv[1:])
     except Refused as refused:
         return refused.status if put(2, f"{refused.line}\n".encode("utf-8", "surrogateescape")) else 4
-    if put(1, picture.encode("utf-8", "surrogateescape")):
-        return 0
-    put(2, b"papyrus: cannot write\n")
-    return 4
+    return written(picture)
 
 
 if __name__ == "__main__":

@@ -54,9 +54,11 @@
     rule();
   });
 
-  for (const button of document.querySelectorAll(".name button")) {
+  for (const button of document.querySelectorAll(".name button[aria-controls]")) {
     button.addEventListener("click", () => button.setAttribute("aria-expanded", button.closest(".row").classList.toggle("open")));
   }
+  const more = document.querySelector("[data-unfold]");
+  if (more) more.addEventListener("click", () => more.setAttribute("aria-expanded", sheet.classList.toggle("all")));
   for (const event of ["pointerover", "pointerdown"]) {
     chart.addEventListener(event, found => { if (found.target.title) read.textContent = found.target.title; });
   }
@@ -64,6 +66,7 @@
   function arrive() {
     const place = document.getElementById(decodeURIComponent(location.hash.slice(1)));
     if (!place || !chart.contains(place)) return;
+    if (more && place.matches(".untouched")) { sheet.classList.add("all"); more.setAttribute("aria-expanded", true); }
     place.scrollIntoView({block: "center", inline: "nearest"});
     const left = place.offsetLeft - (chart.clientWidth - names()) / 2;
     if (place.title) { chart.scrollLeft = left; read.textContent = place.title; }

@@ -21,9 +21,9 @@ def bar(kind, begin, length, title, text="", anchor="", height=None):
     return f'<i class="{kind}" style="{style}"{place} role="img" title="{escaped(title)}">{escaped(text)}</i>'
 
 
-def row(kind, name, lanes, panel, anchor, heading=""):
-    """A row with its name, which opens its panel."""
-    button = f'<button aria-expanded="false" aria-controls="{anchor}-panel">{escaped(name)}</button>'
+def row(kind, name, lanes, panel, anchor, heading="", label=""):
+    """A row with its name, which opens its panel, and what stands before and behind that."""
+    button = f'{label}<button aria-expanded="false" aria-controls="{anchor}-panel">{escaped(name)}</button>'
     lane = "".join(f'<div class="{style}">{content}</div>' for style, content in lanes)
     return (
         f'<div class="row {kind}" id="{anchor}"><div class="name">{button}<small>{heading}</small></div><div class="lanes">{lane}</div></div>\n'
@@ -60,6 +60,8 @@ class Rows:
         for instance in self.told:
             self.overwrites += report.overwrites(instance, self.changes[instance], self.held_by[instance], QUARTERS)
         self.overwrites.sort(key=lambda over: over.change.turn)
+        self.unfinished = [stack for stack, status in enumerate(statuses) if status != "done"] if recorder.turns else []
+        self.untouched = [instance for instance in range(len(names)) if not recorder.is_touched(instance) and not self.changes.get(instance)]
         self.acts = {}
         for stack, first, count in self.turn_bars:
             self.acts.setdefault(stack, []).append((first, count))
@@ -72,7 +74,7 @@ class Rows:
         """Whose each turn is."""
         found = []
         for stack, first, count in self.turn_bars:
-            whose = "is idle" if stack is None else f"is stack {stack}'s"
+            whose = "is idle" if stack is None else f"is that of {self.names.stack(stack)}"
             title = f"turn {first} {whose}" if count == 1 else f"each of the turns {first} to {first + count - 1} {whose}"
             found.append(bar("idle" if stack is None else "whose", first * QUARTERS, count * QUARTERS, title, "idle" if stack is None else str(stack)))
         return f'<div class="row turns"><div class="name"><b>turn of stack</b></div><div class="lanes"><div class="lane">{"".join(found)}</div></div></div>\n'
@@ -83,13 +85,17 @@ class Rows:
         found = [self.stack_bar(one, title) for one, title in zip(gathered.bars, titles)]
         found += [f'<u class="act" style="--a:{first * QUARTERS};--n:{count * QUARTERS}"></u>' for first, count in self.acts.get(stack, [])]
         if gathered.done is not None and gathered.done < self.shown * QUARTERS:
-            found.append(bar("done", gathered.done, 0, f"stack {stack} is done in turn {gathered.done // QUARTERS}", "done"))
-            titles.append(f"stack {stack} is done in turn {gathered.done // QUARTERS}")
+            titles.append(f"{self.names.stack(stack)} is done in turn {gathered.done // QUARTERS}")
+            found.append(bar("done", gathered.done, 0, titles[-1], "done"))
         printed = self.printed.get(stack, [])
         lanes = [("lane", "".join(found)), *self.print_lane(printed)]
-        summary = f"<p>{escaped(words.summary_of_stack(stack, gathered.bars, self.statuses[stack]))}</p>"
+        summary = f"<p>{escaped(words.summary_of_stack(stack, gathered.bars, self.statuses[stack], self.names))}</p>"
         panel = summary + items([printed_line(one) for one in printed], "ul") + sentences(titles)
-        return row("stack", f"stack {stack}", lanes, panel, f"stack-{stack}", escaped(self.statuses[stack].replace("asleep", "asleep until")))
+        call = self.names.calls[stack] if stack < len(self.names.calls) else ""
+        label = f'<span class="sign">{stack}</span>' if call else ""
+        # It may be broken behind the name of the instance.
+        name = call.replace(".", ".\u200b", 1) or f"stack {stack}"
+        return row("stack", name, lanes, panel, f"stack-{stack}", escaped(self.statuses[stack].replace("asleep", "asleep until")), label)
 
     def stack_bar(self, one, title):
         kind = f"{one.kind} c{one.value}" if one.kind in ("holds", "waits") else one.kind
@@ -110,7 +116,7 @@ class Rows:
 
     def print_bar(self, turn, ones, end):
         kind = "fault" if any(one.fault for one in ones) else "trace"
-        title = f"in turn {turn} {words.listed([printed_text(one) for one in ones])}"
+        title = f"in turn {turn} {words.listed([printed_text(one, self.names) for one in ones])}"
         return bar(kind, turn * QUARTERS, (end - turn) * QUARTERS, title, "; ".join(one.text for one in ones))
 
     def instance_row(self, instance):
@@ -121,7 +127,20 @@ class Rows:
         titles = [words.holds(one, self.names) for one in self.held_by[instance]]
         heading = f"{words.turns(sums.waited)} of waiting"
         panel = self.instance_panel(instance) + sentences(titles)
-        return row("instance", name, lanes, panel, f"instance-{instance}", heading) + self.value_rows(instance)
+        kind = "instance untouched" if instance in self.untouched else "instance"
+        label = f'<span class="sign c{instance}">{words.sign(instance)}</span>'
+        return row(kind, name, lanes, panel, f"instance-{instance}", heading, label) + self.value_rows(instance)
+
+    def untouched_row(self):
+        """The instances whose rows are folded away, as one row that unfolds them."""
+        if not self.untouched:
+            return ""
+        count = words.counted(len(self.untouched), "instance")
+        listed = escaped(", ".join(self.names[instance] for instance in self.untouched))
+        return (
+            f'<div class="row rest"><div class="name"><button data-unfold aria-expanded="false">{count} more</button></div>'
+            f'<div class="lanes"><div class="rest">No stack took {"it" if len(self.untouched) == 1 else "one of them"} or waited for it: {listed}</div></div></div>\n'
+        )
 
     def held_bar(self, one):
         return bar(f"holds by c{one.value}", one.begin, one.end - one.begin, words.holds(one, self.names), f"stack {one.stack}")
@@ -166,7 +185,7 @@ class Rows:
         first, count, value = known
         owner = self.names[instance]
         title = words.of_value(name, owner, first, count, value)
-        title += f"; {words.of_change(change, name, owner)}" if change else ""
+        title += f"; {words.of_change(change, name, owner, self.names)}" if change else ""
         title += "; this may lose an update" if over else ""
         kind = "known over" if over else "known changed" if change else "known"
         count = min(count, self.shown - first)
@@ -174,8 +193,8 @@ class Rows:
         return bar(kind, first * QUARTERS, count * QUARTERS, title, f"{'! ' if over else ''}{value}", anchor)
 
 
-def printed_text(one):
-    return f"stack {one.stack} {'has the fault' if one.fault else 'traces'} {one.text}"
+def printed_text(one, names):
+    return f"{names.stack(one.stack)} {'has the fault' if one.fault else 'traces'} {one.text}"
 
 
 def printed_line(one):

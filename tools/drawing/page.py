@@ -10,8 +10,13 @@ QUARTERS = bars.QUARTERS
 NARROWEST, WIDEST, ROOM = 10, 84, 1000
 # What may stand behind the last turn, in pixels.
 RIM = 48
+# Of how many turns a run is so long that its bars are thin on paper.
+LONG = 120
+# How many lines of a box are seen at once.
+AT_ONCE = 3
+PATTERNS, SHADES = 6, (0, -9, 9)
 LEGEND = (
-    ("holds", "a stack holds an instance, in its colour and with its name"),
+    ("holds", "a stack holds an instance, in its colour and pattern, with its name or its letters"),
     ("waits", "it waits for that instance"),
     ("asleep", "it is asleep"),
     ("free", "it runs free"),
@@ -32,7 +37,15 @@ def hue(instance):
 
 
 def colours(names):
-    return "".join(f".c{at}{{--h:{hue(at):.0f}}}" for at in range(len(names)))
+    """How each instance is drawn: in a colour, one of three shades and one of six patterns, so that neighbours differ in grey too."""
+    rules = ("--h:{:.0f};--d:{}%;--p:var(--p{});--s:'{}';--w:{}ch".format(*how) for how in zip(*columns_of_colours(names)))
+    return "".join(f".c{at}{{{rule}}}" for at, rule in enumerate(rules))
+
+
+def columns_of_colours(names):
+    """For all instances the colour, the shade, the pattern, the letters, and how wide the name is."""
+    numbers = range(len(names))
+    return map(hue, numbers), (SHADES[at % 3] for at in numbers), (at % PATTERNS for at in numbers), map(words.sign, numbers), (f"{0.9 * len(name) + 0.1:.2f}" for name in names)
 
 
 def legend(recorder, overwrites):
@@ -68,19 +81,37 @@ def cut_note(recorder):
     )
 
 
+def not_ended(picture, recorder, names):
+    """The stacks that don't end, above all."""
+    first = picture.unfinished[: bars.LONGEST]
+    if not first:
+        return ""
+    told = [(stack, words.of_unfinished(stack, picture.statuses[stack], recorder.standing(stack), names)) for stack in first]
+    lines = [f'<li>{escaped(text)} <a href="#stack-{stack}">Show it</a></li>' for stack, text in told]
+    count, every = len(picture.unfinished), len(recorder.stacks)
+    heading = f"{count} of {words.counted(every, 'stack')} {'does' if count == 1 else 'do'}n't end"
+    return f'<section class="look"><h2>{heading}</h2><p>After {words.turns(recorder.turns)}:</p>{listed(lines, count)}</section>'
+
+
+def listed(lines, count):
+    """The first of these lines, and the others where they are asked for, of so many that there are."""
+    rest = count - len(lines)
+    others = lines[AT_ONCE:] + [f"<li>and {rest} more</li>"] * (rest > 0)
+    more = f"<details><summary>and {count - AT_ONCE} more</summary><ul>{''.join(others)}</ul></details>" if others else ""
+    return f"<ul>{''.join(lines[:AT_ONCE])}</ul>{more}"
+
+
 def look_here(picture, names):
     """What may be a lost update, on top."""
     if not picture.overwrites:
         return NO_OVERWRITE if picture.reports.wanted >= set(range(picture.recorder.turns + 1)) else ""
     first = picture.overwrites[: bars.LONGEST]
-    rest = len(picture.overwrites) - len(first)
-    texts = [escaped(words.of_overwrite(over, names[over.instance])) for over in first]
+    texts = [escaped(words.of_overwrite(over, names)) for over in first]
     links = [f'<a href="#{picture.anchor_of(over)}">Show turn {over.change.turn}</a>' for over in first]
     lines = [f"<li>{text} {link}</li>" for text, link in zip(texts, links)]
-    more = f"<li>and {rest} more</li>" if rest else ""
     return (
         '<section class="look"><h2>Look here: an update may be lost</h2>'
-        f"<ul>{''.join(lines)}{more}</ul><p>If the new value was worked out from one that was read before, the other change is lost.</p></section>"
+        f"{listed(lines, len(picture.overwrites))}<p>If the new value was worked out from one that was read before, the other change is lost.</p></section>"
     )
 
 
@@ -115,9 +146,9 @@ def chart(recorder, picture, names, width):
     rim = RIM if any(one.done is not None for one in recorder.stacks) or picture.printed else 1
     head = f'<div class="row head"><div class="name">turn</div><div class="lanes"><div class="lane">{ruler(shown, width)}</div></div></div>\n'
     return (
-        '<div class="chart" tabindex="0" role="region" aria-label="The run, turn by turn">'
+        f'<div class="chart{" long" if shown > LONG else ""}" tabindex="0" role="region" aria-label="The run, turn by turn">'
         f'<div class="sheet" style="--t:{shown};--q:{width / QUARTERS:g}px;--rim:{rim}px">\n'
-        f'{head}{picture.turns_row()}{stacks}<div class="break"></div>\n{instances}{bands(picture)}</div></div>\n'
+        f'{head}{picture.turns_row()}{stacks}<div class="break"></div>\n{instances}{picture.untouched_row()}{bands(picture)}</div></div>\n'
     )
 
 
@@ -135,9 +166,9 @@ def page(title, recorder, names, statuses, reports):
     return (
         '<!doctype html>\n<html lang="en">\n<meta charset="utf-8">\n<meta name="viewport" content="width=device-width">\n'
         f"<title>{escaped(title)}</title>\n<style>\n{style}\n</style>\n"
-        "<noscript><style>.panel{display:block}.bar{display:none}</style></noscript>\n"
+        "<noscript><style>.panel,.row.untouched{display:block}.row.untouched{display:grid}.bar,.row.rest{display:none}</style></noscript>\n"
         f"<h1>{escaped(title)}</h1>\n<p>{escaped(summary(recorder, names))}</p>\n"
-        f"{cut_note(recorder)}{look_here(picture, names)}{legend(recorder, picture.overwrites)}{tools}{chart(recorder, picture, names, width)}"
+        f"{cut_note(recorder)}{not_ended(picture, recorder, names)}{look_here(picture, names)}{legend(recorder, picture.overwrites)}{tools}{chart(recorder, picture, names, width)}"
         '<output class="read">Point at a bar, and it is told here. A name opens what there is of its row.</output>\n'
         f'<div class="tables">{waits_table(recorder, names)}{longest_waits(recorder, names)}</div>\n<script>\n{script}</script>\n</html>\n'
     )

@@ -14,6 +14,8 @@ LONGEST = 10
 # line, and `until` that of the line that ends it, or None where none does. `waited` counts the turns of a wait, and of that before a hold.
 Bar = collections.namedtuple("Bar", "kind stack value begin end since until waited")
 Wait = collections.namedtuple("Wait", "turns since until stack instance")
+# What a stack that isn't done waits for since a turn, with the stack that holds it since another one; and how many turns it had, and the last of them.
+Standing = collections.namedtuple("Standing", "since holder acts last")
 # The waits for an instance, all together: turns, takes, and the most stacks that waited at once.
 Sums = collections.namedtuple("Sums", "waited takes most")
 
@@ -44,6 +46,9 @@ class Recorder:
         self.idle = 0
         self.longest = []
         self.turns = 0
+        # For each stack how many turns it had, and the last of them; and at the end of the run what it is in.
+        self.acts = {}
+        self.left = []
 
     def note(self, line):
         if line.word in ("turn", "end", "release", "leave"):
@@ -62,7 +67,7 @@ class Recorder:
     def move(self, line, at):
         word, turn, stack = line.word, line.turn, line.numbers[0] if line.numbers else None
         if word in ("run", "idle"):
-            self.run(stack)
+            self.run(stack, turn)
         elif word == "join":
             self.begin(stack, "waits", line.numbers[1], at, turn)
             self.count(line.numbers[1], at, 1)
@@ -77,8 +82,10 @@ class Recorder:
         elif word == "done":
             self.stacks[stack].done = at
 
-    def run(self, stack):
+    def run(self, stack, turn):
         self.idle += stack is None
+        if stack is not None:
+            self.acts[stack] = (self.acts.get(stack, (0, 0))[0] + 1, turn)
         if len(self.runs) * QUARTERS < self.most:
             self.runs.append(stack)
 
@@ -127,8 +134,19 @@ class Recorder:
 
     def finish(self, turns):
         self.turns = turns
+        self.left = [one.open or ("done", None, 0, 0, 0) for one in self.stacks]
         for stack in range(len(self.stacks)):
             self.close(stack, turns * QUARTERS, None)
+
+    def standing(self, stack):
+        """How a stack stands at the end of the run."""
+        _, instance, _, since, _ = self.left[stack]
+        holders = [(other, one[3]) for other, one in enumerate(self.left) if one[:2] == ("holds", instance)]
+        return Standing(since, holders[0] if holders else (None, 0), *self.acts.get(stack, (0, 0)))
+
+    def is_touched(self, instance):
+        """Whether a stack took an instance, or waited for it."""
+        return bool(self.takes[instance] or self.waited[instance] or self.waiting[instance])
 
     def shown(self):
         """How many turns are drawn."""
