@@ -20,7 +20,7 @@ import measure
 
 LIMIT = 16 * 1024 * 1024
 MOST = 0xFFFF
-CHECK_BOUND, SHOW_BOUND, MEMORY_BOUND = 2, 8, 12
+CHECK_BOUND, SHOW_BOUND, ORDINARY_SHOW_BOUND, MEMORY_BOUND = 2, 8, 5, 12
 
 
 def u8(n):
@@ -169,7 +169,7 @@ def compare(name):
         make_apart(name, path)
         size = path.stat().st_size
         missed = False
-        for command, bound in (("check", CHECK_BOUND), ("show", SHOW_BOUND)):
+        for command, bound in (("check", CHECK_BOUND), ("show", ORDINARY_SHOW_BOUND if name == "ordinary" else SHOW_BOUND)):
             words = [measure.program(), command, "B.pex"]
             own, base, ratio = measure.beside(words, ["sha256sum", "B.pex"], folder, (0, 6), runs=7)
             measure.row(f"{name}: sha256sum", *base)
