@@ -6,16 +6,19 @@ use Rattle.std.specs.List.{position_or_len}
 use Rattle.core_tree.specs.declared.core_type.CoreType.{CoreType}
 use Rattle.core_tree.specs.declared.core_type.CoreType.TheVariants as kinds
 use Rattle.core_tree.specs.declared.outline.OutlineProperty.{OutlineProperty}
+use Rattle.core_tree.specs.declared.scene_tree.Binding.TheVariants as bindings
 use Rattle.core_tree.specs.declared.value.Value.TheVariants as values
 use Rattle.core_tree.specs.Outlines.{ScriptShape}
+use Rattle.core_tree.specs.Scenes.{SceneShape, Round}
 use Rattle.pex_values.specs.declared.values.Datum.{Datum}
 use Rattle.pex_values.specs.declared.values.Datum.TheVariants as datum
 use Rattle.pex_values.specs.declared.values.PexVariable.{PexVariable}
 use Rattle.pex_values.specs.declared.values.SizeForm.TheVariants.{Counted}
 use Rattle.pex_values.specs.Plain.{PlainFunction, PlainInstruction, PlainLines, PlainObject, PlainPex, PlainProperty, PlainState}
+use Rattle.script_meaning.specs.World.{World, Line, Traced}
 use Rattle.code_meaning.specs.Code.{Operand, Literal, Slot, Variable, Itself, StateText, Function, Auto, Full, State, Script}
 use Rattle.code_meaning.specs.Code as op
-use Rattle.pex_meaning.specs.Meant.{outline_meant, scripts_meant}
+use Rattle.pex_meaning.specs.Meant.{outline_meant, scripts_meant, pex_run}
 use Rattle.pex_meaning.specs.Names.{type_named}
 
 -- ---- how the files are written
@@ -140,6 +143,30 @@ counts_shape = record {
 
 pub counts_outlined : shape_of counting ≡ Some counts_shape
 counts_outlined = refl
+
+-- one call of it on an instance
+abbrev scene : SceneShape
+scene = record {
+  instances = record { name = codes "it"; script = 6; set = [] } ∷ [];
+  calls = record { turn = 0; instance = 0; function = codes "count"; arguments = values.Int (pos 3) ∷ [] } ∷ [];
+  natives = record { script = 0; function = 0; binding = bindings.Trace 0 } ∷ [];
+  tapes = [];
+  devices = 0;
+  order = Round;
+  turns = 100;
+  quantum = 1;
+}
+
+abbrev hello : List Line
+hello = Traced 0 (codes "hello") ∷ []
+
+-- the number of turns, the stacks that are done, and the lines
+abbrev glance : World → ℕ × List ℕ × List Line
+glance world = (world.turn, world.done, world.output)
+
+-- the trace ends turn 0, and the end of the function turn 1
+pub counts_in_a_run : map glance (pex_run counting scene [] 5) ≡ (0, [], []) ∷ (1, [], hello) ∷ (2, 0 ∷ [], hello) ∷ []
+counts_in_a_run = refl
 
 -- ---- properties: one that is read alone, of a variable, and one that is read by a function
 abbrev half : PlainFunction

@@ -1,18 +1,22 @@
--- What the files of a verified set mean: its outline, and its scripts with their properties, states and functions.
+-- What the files of a verified set mean: its outline, its scripts with their properties, states and functions, and its runs.
 use Rattle.std.specs.Prelude.{ℕ, ◌==◌, Bool, ◌&&◌, not, if◌then◌else◌, List, [], ◌∷◌, ◌++◌, length, map, replicate, filter, Option, None, Some, option_map, option_and_then, unwrap_or}
 use Rattle.std.specs.List.{filter_map, flat_map, list_any}
 use Rattle.core_tree.specs.declared.core_type.CoreType.{CoreType}
+use Rattle.core_tree.specs.declared.DeviceKind.{DeviceKind}
 use Rattle.core_tree.specs.declared.outline.OutlineProperty.{OutlineProperty}
 use Rattle.core_tree.specs.declared.outline.OutlineVariable.{OutlineVariable}
 use Rattle.core_tree.specs.declared.value.Value.{Value}
 use Rattle.core_tree.specs.declared.value.Value.TheVariants as values
 use Rattle.core_tree.specs.Outlines.{FunctionShape, ScriptShape}
+use Rattle.core_tree.specs.Scenes.{SceneShape}
 use Rattle.core_tree.specs.Values.{default_of}
 use Rattle.pex_values.specs.declared.values.Datum.{Datum}
 use Rattle.pex_values.specs.declared.values.Datum.TheVariants as datum
 use Rattle.pex_values.specs.declared.values.PexVariable.{PexVariable}
 use Rattle.pex_values.specs.Plain.{PlainFunction, PlainPex, PlainProperty, PlainState}
+use Rattle.script_meaning.specs.World.{World}
 use Rattle.code_meaning.specs.Code.{Function, Access, Auto, Full, Property, State, Script}
+use Rattle.code_meaning.specs.Engine.{code_run}
 use Rattle.pex_meaning.specs.Prelude.{prelude, members, libraries}
 use Rattle.pex_meaning.specs.Names.{string_at, first_named, is_among, is_empty, script_names, value_type}
 use Rattle.pex_meaning.specs.Functions.{Home, string, variable_names, has_bit, function_meant, own_function}
@@ -147,3 +151,7 @@ outline_meant files = map script_outlined (homes_of files)
 -- the scripts that run
 abbrev pub scripts_meant : List PlainPex → List Script
 scripts_meant files = map script_meant (homes_of files)
+
+-- the worlds of a run of at most so many turns, from the first one on
+abbrev pub pex_run : List PlainPex → SceneShape → List DeviceKind → ℕ → List World
+pex_run files scene kinds turns = code_run (outline_meant files) (scripts_meant files) scene kinds turns
