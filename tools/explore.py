@@ -353,7 +353,7 @@ def explore(words, program, room):
     folder_in(words)
     words.until = words.until or scene.turns
     orders = Orders(scene, words.any_start)
-    walker_words = (program, look.files, orders, not words.of and not words.random, expectations)
+    walker_words = (program, look.files, orders, not words.of and not words.random, expectations, room)
     walker = Walker(*walker_words)
     teller = Teller(orders, words, walker)
     try:

@@ -6,10 +6,11 @@ import hashlib
 import multiprocessing
 import shutil
 import signal
+import tempfile
 import time
 
 from .held import Held
-from .program import MOST_TURNS, NO_STACK, Program, folder
+from .program import MOST_TURNS, NO_STACK, Program
 
 # What a step leads to: the sum of the state, the steps that may follow, the report where nothing is left, the turn, and which expectations are broken, and how.
 Reached = collections.namedtuple("Reached", "step sum choices report turn broken")
@@ -43,8 +44,9 @@ class Path:
 class Walker:
     """Makes one step of an order of turns by the program itself."""
 
-    def __init__(self, program, files, orders, with_lines, expectations):
-        self.room = folder()
+    def __init__(self, program, files, orders, with_lines, expectations, above):
+        # In the folder of the whole search, which goes with it however a process ends.
+        self.room = tempfile.mkdtemp(dir=above)
         self.program = Program(program, files, self.room)
         self.orders, self.with_lines, self.expectations = orders, with_lines, expectations
 
