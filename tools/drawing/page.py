@@ -12,6 +12,8 @@ NARROWEST, WIDEST, ROOM = 10, 84, 1000
 RIM = 48
 # Of how many turns a run is so long that its bars are thin on paper.
 LONG = 120
+# How wide all turns are on paper, about, in pixels.
+PAPER = 880
 # How many lines of a box are seen at once.
 AT_ONCE = 3
 PATTERNS, SHADES = 6, (0, -9, 9)
@@ -59,8 +61,8 @@ def legend(recorder, overwrites):
 
 
 def ruler(shown, width):
-    """The numbers of turns, as far apart as their text needs."""
-    step = next(step for step in (1, 2, 5, 10, 20, 50, 100) if step * width >= 44)
+    """The numbers of turns that are so many pixels wide, as far apart as their text needs."""
+    step = next(step for step in (1, 2, 5, 10, 20, 50, 100, 200, 500, 1000, 2000) if step * width >= 44)
     return "".join(f'<b style="--a:{turn * QUARTERS}">{turn}</b>' for turn in range(0, shown, step))
 
 
@@ -144,7 +146,8 @@ def chart(recorder, picture, names, width):
     stacks = "".join(map(picture.stack_row, range(len(recorder.stacks))))
     instances = "".join(map(picture.instance_row, range(len(names))))
     rim = RIM if any(one.done is not None for one in recorder.stacks) or picture.printed else 1
-    head = f'<div class="row head"><div class="name">turn</div><div class="lanes"><div class="lane">{ruler(shown, width)}</div></div></div>\n'
+    head = f'<div class="row head"><div class="name">turn</div><div class="lanes"><div class="lane">{ruler(shown, width)}</div>'
+    head += f'<div class="lane paper">{ruler(shown, PAPER / max(shown, 1))}</div></div></div>\n'
     return (
         f'<div class="chart{" long" if shown > LONG else ""}" tabindex="0" role="region" aria-label="The run, turn by turn">'
         f'<div class="sheet" style="--t:{shown};--q:{width / QUARTERS:g}px;--rim:{rim}px">\n'
