@@ -37,7 +37,7 @@ WIDTHS = (80, 100)
 SCENE = '{"version": 2, "instances": [{"name": "a", "script": "A"}], "calls": [], "order": "round", "turns": 1}\n'
 JOURNAL = "journal 1\ninstance a\nturn 0\njoin 0 0\nrun 0\ntake 0 0\nrelease 0 0\ndone 0\nend 1\n"
 NO_SCRIPT = "is no SCRIPT, whose name ends with .psc"
-MISSING = {"SCRIPT": "SCRIPT is missing, a script, whose name ends with .psc", "PEX": "PEX is missing, a compiled file", "N": "N is missing, a number, from 1 to 200 of workers and from 0 to 1,000,000 of turns"}
+MISSING = {"SCRIPT": "SCRIPT is missing, a script, whose name ends with .psc in any case", "PEX": "PEX is missing, a compiled file", "N": "N is missing, a number, from 1 to 200 of workers and from 0 to 1,000,000 of turns"}
 LISTS = "papyrus help lists the commands"
 # What the launcher tells behind the program's line on these words.
 TOLD = {
@@ -257,7 +257,7 @@ def answers(pages, program, folder):
     cases[("view", "spoiled")] = (12, b"", b"spoiled:6: J1 BadLine\n")
     cases[("view", "missing")] = (3, b"", b"papyrus: cannot read missing\n")
     cases[("view",)] = (2, b"", b"papyrus: usage\n    papyrus view JOURNAL [REPORT..]\n    JOURNAL is missing, a journal of a run\n")
-    cases[("explore", "none.json")] = (2, b"", b"papyrus: usage\n    papyrus explore SCENE SCRIPT..\n    SCRIPT is missing, a script, whose name ends with .psc\n")
+    cases[("explore", "none.json")] = (2, b"", b"papyrus: usage\n    papyrus explore SCENE SCRIPT..\n    SCRIPT is missing, a script, whose name ends with .psc in any case\n")
     cases[("help", "resum")] = (2, b"", b"papyrus: usage\n    resum is no command, and resume is near it\n")
     cases[("help", "a", "b")] = (2, b"", b"papyrus: usage\n    papyrus help takes a command; papyrus help lists the commands\n")
     return cases

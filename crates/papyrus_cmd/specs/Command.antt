@@ -1,7 +1,7 @@
 -- Which words are a command, and which files it reads.
 use Rattle.std.specs.Prelude.{ℕ, Bool, false, ◌+◌, ◌-◌, ◌*◌, ◌&&◌, List, [], ◌∷◌, length, take, drop, Option, Some, None, nat_lt, nat_le, nat_eq, codes, if◌then◌else◌}
-use Rattle.std.specs.List.{ends_with, list_all}
-use Rattle.std.specs.Str.{all_ascii_digits, bytes_eq}
+use Rattle.std.specs.List.{list_all}
+use Rattle.std.specs.Str.{all_ascii_digits, bytes_eq, str_eq_ignore_ascii_case}
 use Rattle.papyrus_cmd.specs.declared.command.Command.{Command}
 use Rattle.papyrus_cmd.specs.declared.command.Command.TheVariants.{Help, Version, Files, Play}
 use Rattle.papyrus_cmd.specs.declared.command.FileCommand.{FileCommand}
@@ -9,9 +9,9 @@ use Rattle.papyrus_cmd.specs.declared.command.FileCommand.TheVariants.{Compile, 
 use Rattle.papyrus_cmd.specs.declared.command.PlayCommand.{PlayCommand}
 use Rattle.papyrus_cmd.specs.declared.command.PlayCommand.TheVariants.{Once, Run, Exec, Journal, Hold, Resume, Sample}
 
--- one byte or more, followed by an ending of four bytes, and at most 4,096 bytes in all
+-- one byte or more, followed by an ending of four bytes in any case, and at most 4,096 bytes in all
 abbrev pub is_named : List ℕ → List ℕ → Bool
-is_named ending word = nat_lt 4 (length word) && (nat_le (length word) 4096 && ends_with nat_eq word ending)
+is_named ending word = nat_lt 4 (length word) && (nat_le (length word) 4096 && str_eq_ignore_ascii_case (drop (length word - 4) word) ending)
 
 -- 1 to 256 such words
 abbrev pub are_named : List ℕ → List (List ℕ) → Bool

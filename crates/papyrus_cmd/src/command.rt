@@ -16,10 +16,10 @@ const WORKER_LIMIT: u32 = 200;
 /// The most turns that a command goes on for.
 const TURN_LIMIT: u32 = 1_000_000;
 
-/// What a script's name ends with.
+/// What a script's name ends with, in any case.
 const SCRIPT_ENDING: &[u8] = b".psc";
 
-/// What the name of a compiled file ends with.
+/// What the name of a compiled file ends with, in any case.
 const PEX_ENDING: &[u8] = b".pex";
 
 /// The bytes of an ending.
@@ -261,7 +261,9 @@ fn each_is_named(ending: &[u8], words: &[String]) -> bool
 fn is_named(ending: &[u8], word: &[u8]) -> bool
     ensures { result ≡ is_named ending.now word.now }
 {
-    word.len() > ENDING_LENGTH && word.len() <= WORD_LIMIT && word.ends_with(ending)
+    word.len() > ENDING_LENGTH
+        && word.len() <= WORD_LIMIT
+        && word[word.len() - ENDING_LENGTH..].eq_ignore_ascii_case(ending)
 }
 
 // A file, and scripts behind it.

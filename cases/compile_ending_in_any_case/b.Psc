@@ -1,0 +1,1 @@
+ScriptName B extends A

@@ -1,0 +1,4 @@
+ScriptName A
+Event OnInit()
+  Debug.Trace("a")
+EndEvent
