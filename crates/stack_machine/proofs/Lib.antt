@@ -3,7 +3,5 @@ pub mod Begun
 pub mod Noting
 pub mod Planning
 pub mod Seats
-pub mod Sinks
 pub mod Starts
-pub mod Texts
 pub mod Waking

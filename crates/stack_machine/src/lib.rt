@@ -1,28 +1,19 @@
 //! The machine that runs loaded Papyrus scripts in turns: one stack runs at a time, from one act to the next.
 #![tactic(auto)]
 
-mod casts;
-mod frame;
-mod instructions;
-mod lines;
 mod machine;
 mod moves;
-mod natives;
-mod operands;
 mod plan;
 mod restore;
-mod run;
 mod savable;
-mod setting;
 mod snapshot;
 mod sound;
 mod status;
-mod store;
 mod threads;
 mod world;
 
-pub use lines::append_escaped;
+pub use body_runner::{TurnFault, append_escaped};
 pub use machine::Machine;
 pub use machine_state::{BodyPlace, FrameState, MachineState, Way};
 pub use run_replay::LockMove;
-pub use status::{RestoreFault, Status, TurnEnd, TurnFault};
+pub use status::{RestoreFault, Status, TurnEnd};

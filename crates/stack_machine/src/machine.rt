@@ -3,20 +3,19 @@
 
 ghost use Rattle.std.specs.Prelude.{◌≡◌, ◌↔◌, ◌+◌, ◌<◌, ◌≤◌, ◌^◌, false, Ok, Err, None, IfOk, IfSome, IsTrue, MatchResult, OnOk, map, take, vec_len};
 ghost use Rattle.latent_natives.specs.Devices.{SameKinds};
-ghost use Rattle.stack_machine.specs.Casts.{IsTextOf};
-ghost use Rattle.stack_machine.specs.Machine.{turns_after, fault_after, CountsTurn, HasEnded, HasNothingLeft, HasStarted};
+ghost use Rattle.body_runner.specs.Casts.{IsTextOf};
+ghost use Rattle.body_runner.specs.Faults.{CountsTurn};
+ghost use Rattle.stack_machine.specs.Machine.{turns_after, fault_after, HasEnded, HasNothingLeft, HasStarted};
 ghost use Rattle.stack_machine.specs.Moves.{AppendsTurn, NotesEnd};
 ghost use Rattle.stack_machine.specs.Plans.{ArePlanned, HasBegun, calls_before};
-ghost use Rattle.stack_machine.specs.Written.{WritesLines};
+ghost use Rattle.body_runner.specs.Written.{WritesLines};
 
-use crate::casts::text_of;
 use crate::moves::{MoveSink, NoNotes};
 use crate::plan::Plan;
-use crate::setting::Setting;
-use crate::status::{Status, TurnEnd, TurnFault};
-use crate::store::Store;
+use crate::status::{Status, TurnEnd};
 use crate::threads::Threads;
 use crate::world::World;
+use body_runner::{Bindings, Setting, Store, TurnFault, text_of};
 use core_tree::{Outline, Scene, TurnOrder, Value};
 use instance_store::Arrays;
 use latent_natives::{Device, load_device};
@@ -31,6 +30,7 @@ use std::marker::Model;
 #[derive(Drop)]
 pub struct Machine {
     pub(crate) setting: Setting,
+    pub(crate) plan: Plan,
     pub(crate) world: World,
     // The turns that were done.
     pub(crate) turns: u32,
@@ -40,7 +40,7 @@ pub struct Machine {
 
 impl Model for Machine {
     ghost use Rattle.std.specs.Prelude.{◌≡◌, ◌<◌, ◌≤◌, None, vec_len};
-    ghost use Rattle.stack_machine.specs.Casts.{IsTextOf};
+    ghost use Rattle.body_runner.specs.Casts.{IsTextOf};
     ghost use Rattle.stack_machine.specs.Machine.{MachineView};
     ghost use Rattle.stack_machine.specs.Plans.{ArePlanned, HasBegun};
 
@@ -48,7 +48,7 @@ impl Model for Machine {
 
     ghost view = { λ m. record { outline = m.setting.loaded.outline; scene = m.setting.scene; turns = m.turns; started = m.world.threads.started; done = m.world.threads.done; fault = m.fault } };
 
-    ghost invariant = { λ m. (vec_len m.setting.scene.instances < 65536) × (vec_len m.setting.scene.calls < 65536) × (m.turns ≤ m.setting.scene.turns) × (m.fault ≡ None → HasBegun m.setting.plan.calls.items m.setting.scene.calls.items m.world.threads m.turns) };
+    ghost invariant = { λ m. (vec_len m.setting.scene.instances < 65536) × (vec_len m.setting.scene.calls < 65536) × (m.turns ≤ m.setting.scene.turns) × (m.fault ≡ None → HasBegun m.plan.calls.items m.setting.scene.calls.items m.world.threads m.turns) };
 }
 
 impl Machine {
@@ -77,9 +77,10 @@ impl Machine {
             setting: Setting {
                 loaded,
                 scene,
-                plan: first.0,
+                bindings: first.bindings,
             },
-            world: first.1,
+            plan: first.plan,
+            world: first.world,
             turns: 0,
             fault: None,
         })
@@ -193,7 +194,7 @@ impl Machine {
         }
         match self
             .world
-            .do_turn(&self.setting, self.turns, sink, devices, notes)
+            .do_turn(&self.setting, &self.plan, self.turns, sink, devices, notes)
         {
             Ok(end) => {
                 self.turns += 1;
@@ -276,7 +277,7 @@ impl Machine {
         if self.world.store.has_instance(instance) {
             return self.world.store.instances.state_of(instance);
         }
-        &self.setting.plan.no_state
+        &self.plan.no_state
     }
 
     /// The value of an instance's Auto property of this number, where those of the root script come first, each
@@ -324,23 +325,35 @@ impl Machine {
 }
 
 // What a machine has before its first turn, beside the scripts and the scene.
+#[derive(Drop)]
+struct Beginning {
+    bindings: Bindings,
+    plan: Plan,
+    world: World,
+}
+
 fn initial(
     alloc: Global,
     loaded: &Loaded,
     scene: &Scene,
     devices: &mut Vec<Box<dyn Device>>,
-) -> Made<(Plan, World)>
+) -> Made<Beginning>
     requires instances { vec_len scene.now.instances < 65536 }
     requires calls { vec_len scene.now.calls < 65536 }
-    ensures fresh { IfOk result (λ first. (first.1.threads.started ≡ 0) × (first.1.threads.done ≡ 0)) }
-    ensures room { IfOk result (λ first. first.1.threads.room ≡ vec_len scene.now.calls) }
-    ensures planned { IfOk result (λ first. ArePlanned first.0.calls.items scene.now.calls.items) }
+    ensures fresh { IfOk result (λ first. (first.world.threads.started ≡ 0) × (first.world.threads.done ≡ 0)) }
+    ensures room { IfOk result (λ first. first.world.threads.room ≡ vec_len scene.now.calls) }
+    ensures planned { IfOk result (λ first. ArePlanned first.plan.calls.items scene.now.calls.items) }
     ensures kinds { SameKinds (map (λ d. device_state d) devices.old.items) (map (λ d. device_state d) devices.new.items) }
 {
     load_devices(&scene.tapes, devices)?;
+    let bindings = Bindings::of(alloc, loaded.outline(), &scene.natives)?;
     let plan = Plan::of(alloc, loaded, scene)?;
     let world = initial_world(alloc, loaded, scene)?;
-    Ok((plan, world))
+    Ok(Beginning {
+        bindings,
+        plan,
+        world,
+    })
 }
 
 fn initial_world(alloc: Global, loaded: &Loaded, scene: &Scene) -> Made<World>

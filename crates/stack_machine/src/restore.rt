@@ -6,16 +6,14 @@ ghost use Rattle.stack_machine.specs.Plans.{ArePlanned, HasBegun};
 ghost use Rattle.stack_machine.specs.Restoring.{LeavesDevices};
 ghost use Rattle.stack_machine.specs.Threads.{IsSameSize};
 
-use crate::frame::{Call, Frame, Running};
 use crate::machine::Machine;
 use crate::plan::Plan;
-use crate::setting::Setting;
 use crate::snapshot::{HeldDevice, copy_of};
 use crate::sound::is_sound;
 use crate::status::RestoreFault;
-use crate::store::Store;
 use crate::threads::Threads;
 use crate::world::World;
+use body_runner::{Bindings, Call, Frame, Running, Setting, Store};
 use core_tree::{CoreType, Outline, Scene, Value};
 use instance_store::{Arrays, Instance, Instances, ScriptVariables};
 use latent_natives::{Device, load_device};
@@ -57,24 +55,27 @@ impl Machine {
         ensures kinds { SameKinds (map (λ d. device_state d) devices.old.items) (map (λ d. device_state d) devices.new.items) }
     {
         let plan = Plan::of(alloc, &loaded, &scene)?;
+        let bindings = Bindings::of(alloc, loaded.outline(), &scene.natives)?;
         let setting = Setting {
             loaded,
             scene,
-            plan,
+            bindings,
         };
         let mut state = state;
         let turns = state.turn;
-        let revived = revive(alloc, &setting, &mut state, devices);
+        let revived = revive(alloc, &setting, &plan, &mut state, devices);
         drop(state);
         match revived {
             Ok(world) => Ok(Machine {
                 setting,
+                plan,
                 world,
                 turns,
                 fault: None,
             }),
             Err(fault) => {
                 drop(setting);
+                drop(plan);
                 Err(fault)
             }
         }
@@ -86,15 +87,16 @@ impl Machine {
 fn revive(
     alloc: Global,
     setting: &Setting,
+    plan: &Plan,
     state: &mut MachineState,
     devices: &mut Vec<Box<dyn Device>>,
 ) -> Result<World, RestoreFault>
-    requires planned { ArePlanned setting.now.plan.calls.items setting.now.scene.calls.items }
+    requires planned { ArePlanned plan.now.calls.items setting.now.scene.calls.items }
     requires instances { vec_len setting.now.scene.instances < 65536 }
     requires calls { vec_len setting.now.scene.calls < 65536 }
     ensures turn { IfOk result (λ _. state.old.turn ≤ setting.now.scene.turns) }
     ensures started { IfOk result (λ world. world.threads.started ≡ vec_len state.old.stacks) }
-    ensures begun { IfOk result (λ world. HasBegun setting.now.plan.calls.items setting.now.scene.calls.items world.threads state.old.turn) }
+    ensures begun { IfOk result (λ world. HasBegun plan.now.calls.items setting.now.scene.calls.items world.threads state.old.turn) }
     ensures devices { IfErr result (λ fault. LeavesDevices fault (map (λ d. device_state d) devices.old.items) (map (λ d. device_state d) devices.new.items)) }
     ensures kinds { SameKinds (map (λ d. device_state d) devices.old.items) (map (λ d. device_state d) devices.new.items) }
 {

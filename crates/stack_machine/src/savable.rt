@@ -11,7 +11,7 @@ ghost use Rattle.core_tree.specs.declared.value.Value.{Value};
 ghost use Rattle.machine_state.specs.Plain.{PlainArray, PlainFrame, PlainInstance, plain, plain_array, plain_device, plain_frame, plain_instance, plain_stack};
 ghost use Rattle.machine_state.specs.Savable.{FitsTwoBytes, IsElementType, IsNumbered, IsSavable, IsSavableArray, IsSavableDevice, IsSavableFrame, IsSavableInstance, IsSavablePlace, IsSavableStack, IsSavableValue, firsts};
 
-use crate::setting::name_of;
+use body_runner::name_of;
 use core_tree::{CoreType, DeviceKind, Value};
 use machine_state::{BodyPlace, FrameState, MachineState};
 use papy_base::Text;

@@ -4,18 +4,16 @@ ghost use Rattle.std.specs.Prelude.{◌≡◌, None, IfOk, vec_len};
 ghost use Rattle.machine_state.specs.Plain.{plain};
 ghost use Rattle.machine_state.specs.Savable.{IsSavable};
 
-use crate::frame::{Call, CallWay, Frame, Running};
 use crate::machine::Machine;
+use crate::plan::Plan;
 use crate::savable::is_savable;
-use crate::setting::{Setting, name_of};
-use crate::store::copies;
 use crate::world::World;
+use body_runner::{Call, Frame, Running, Setting, called_way, copies, name_of};
 use core_tree::{CoreType, DeviceKind, Value};
 use instance_store::ScriptVariables;
 use latent_natives::Device;
 use machine_state::{BodyPlace, FrameState, MachineState, Way};
 use papy_base::{Made, OutOfMemory, Text};
-use pex_verify::{LoadedInstruction, MethodPlace, Operand};
 use run_replay::StackPlace;
 use std::alloc::Global;
 
@@ -39,6 +37,7 @@ impl Machine {
         let teller = Teller {
             alloc,
             setting: &self.setting,
+            plan: &self.plan,
             world: &self.world,
         };
         let count = self.setting.scene.instances.len() as u16;
@@ -67,6 +66,7 @@ impl Machine {
 struct Teller<'a> {
     alloc: Global,
     setting: &'a Setting,
+    plan: &'a Plan,
     world: &'a World,
 }
 
@@ -193,57 +193,27 @@ impl Teller<'_> {
     fn way(&self, stack: u16, below: Option<&Frame>, call: &Call) -> Made<Way> {
         match (&call.kept, below) {
             (Some(kept), _) => copy_of(self.alloc, kept),
-            (None, Some(frame)) => self.way_of_instruction(frame, call.way),
+            (None, Some(frame)) => self.way_of_instruction(frame),
             (None, None) => self.way_of_scene(stack),
         }
     }
 
     // The first call of a stack is one of the scene's.
     fn way_of_scene(&self, stack: u16) -> Made<Way> {
-        let (plan, scene) = (&self.setting.plan, &self.setting.scene);
-        let planned = plan.calls.get(usize::from(stack)).ok_or(OutOfMemory)?;
+        let scene = &self.setting.scene;
+        let planned = self.plan.calls.get(usize::from(stack)).ok_or(OutOfMemory)?;
         let call = scene.calls.get(planned.number).ok_or(OutOfMemory)?;
         Ok(Way::Method(call.function.try_clone(self.alloc)?))
     }
 
     // Another call is that of the instruction at which the frame below it halts.
-    fn way_of_instruction(&self, below: &Frame, way: CallWay) -> Made<Way> {
-        let instruction = self.calling(below).ok_or(OutOfMemory)?;
-        let place = usize::from(matches!(way, CallWay::Global(_)));
-        let Some(Operand::Word(word)) = instruction.fixed.get(place) else {
+    fn way_of_instruction(&self, below: &Frame) -> Made<Way> {
+        let Frame::Running(running) = below else {
             return Err(OutOfMemory);
         };
-        let name = word.try_clone(self.alloc)?;
-        Ok(match way {
-            CallWay::Method(_) => Way::Method(name),
-            CallWay::Parent { script, .. } => Way::Parent { script, name },
-            CallWay::Global(at) => Way::Global {
-                script: self.named_script(instruction, at),
-                name,
-            },
-            CallWay::Get(_) => Way::Get(name),
-            CallWay::Set(_) => Way::Set(name),
-        })
-    }
-
-    // The instruction at which a frame halts.
-    fn calling(&self, frame: &Frame) -> Option<&LoadedInstruction> {
-        let Frame::Running(running) = frame else {
-            return None;
-        };
-        self.setting.function(running.body)?.code.get(running.place)
-    }
-
-    // The script that a callstatic names. The function may stand above it.
-    fn named_script(&self, instruction: &LoadedInstruction, at: MethodPlace) -> u16 {
-        let Some(Operand::Word(name)) = instruction.fixed.first() else {
-            return at.script;
-        };
-        let scripts = &self.setting.loaded.outline().scripts;
-        let found = scripts.iter().position(|script| script.name.same(name));
-        found
-            .and_then(|number| u16::try_from(number).ok())
-            .unwrap_or(at.script)
+        let function = self.setting.function(running.body).ok_or(OutOfMemory)?;
+        let instruction = function.code.get(running.place).ok_or(OutOfMemory)?;
+        called_way(self.alloc, instruction, running.body.script())?.ok_or(OutOfMemory)
     }
 
     // A body that runs. Where it stands is spelled as it is declared.

@@ -5,16 +5,14 @@
 ghost use Rattle.std.specs.Prelude.{◌≡◌, ◌≤◌, true, IfOk, length, vec_len};
 ghost use Rattle.stack_machine.specs.Plans.{calls_before};
 
-use crate::frame::{CallWay, FRAME_LIMIT};
-use crate::instructions::{element_type, is_call, result_place};
 use crate::restore::{ARRAY_LIMIT, ELEMENT_LIMIT};
 use crate::savable::{is_element_type, pairs_ascend, sleepers_ascend, stacks_ascend};
-use crate::setting::{Found, Setting, slot_type};
 use crate::threads::ALL_FRAMES;
+use body_runner::{CallWay, FRAME_LIMIT, Found, Setting, element_type, is_call, reply_result, slot_type};
 use core_tree::{BoundCall, CoreType, DeviceKind, Scene, Value};
+use loaded_code::LoadedFunction;
 use machine_state::{BodyPlace, FrameState, MachineState, Way};
 use papy_base::{Descent, Made, TEXT_LIMIT, upward};
-use pex_verify::{LoadedFunction, LoadedInstruction, action_of};
 use std::alloc::Global;
 
 /// The most cells of a device.
@@ -221,13 +219,13 @@ impl JudgedState<'_> {
             || !self.is_on_script(*instance, at.script, function)
             || slots.len() != count.saturating_add(function.locals.len())
             || !self.fit_slots(slots, function)
-            || (waits && !calls(comes_to))
+            || (waits && !comes_to.is_some_and(|found| is_call(found)))
         {
             return Ok(false);
         }
         // The type of what takes the result, none where anything is taken.
         let taken = comes_to
-            .and_then(|found| result_place(found).and_then(|place| found.fixed.get(place)))
+            .and_then(|found| reply_result(found))
             .and_then(|operand| self.setting.type_of(at.script, function, operand));
         let reply_fits = reply.as_ref().is_none_or(|value| match taken {
             Some(_) => self.fits(value, taken),
@@ -363,12 +361,6 @@ fn takes_none(kind: Option<CoreType>) -> bool {
         Some(kind) => kind.holds_none(),
         None => true,
     }
-}
-
-fn calls(instruction: Option<&LoadedInstruction>) -> bool {
-    instruction
-        .and_then(|found| action_of(found.opcode))
-        .is_some_and(|action| is_call(action))
 }
 
 // What a call finds.

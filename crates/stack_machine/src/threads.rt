@@ -8,11 +8,9 @@ ghost use Rattle.lock_queue.specs.LockTable.{seat_of, waits_for, is_ready, ready
 ghost use Rattle.stack_machine.specs.Moves.{AddsSome, AreWakes, Begins, Noted, Takes};
 ghost use Rattle.stack_machine.specs.Threads.{GoesToWait, HasGrown, IsOn, IsSameSize, due_after, let_go, put_to_sleep, taken};
 
-use crate::frame::{Call, CallWay, FRAME_LIMIT, Frame, Stack};
 use crate::moves::{MoveSink, note_any};
-use crate::natives::Performed;
-use crate::run::RunEnd;
 use crate::status::Status;
+use body_runner::{Call, CallWay, FRAME_LIMIT, Frame, Performed, RunEnd, Stack};
 use core_tree::Value;
 use latent_natives::Sleepers;
 use lock_queue::Locks;
@@ -463,7 +461,7 @@ impl Threads {
 
 impl Threads {
     ghost use Rattle.std.specs.Borrow.{LendsIf, sem};
-    ghost use Rattle.stack_machine.specs.contracts.frame.Stack.{the_row as stack_row};
+    ghost use Rattle.body_runner.specs.contracts.frame.Stack.{the_row as stack_row};
     ghost use Rattle.stack_machine.specs.contracts.threads.Threads.{the_row};
 
     /// The frames of a stack, of which the innermost one may be changed.

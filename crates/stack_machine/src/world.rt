@@ -1,25 +1,22 @@
 //! What turns change, and what a turn does.
-#![tactic(auto, using(crate::proofs::Sinks::sinks))]
+#![tactic(auto, using(body_runner::proofs::Sinks::sinks))]
 
 ghost use Rattle.std.specs.Prelude.{◌≡◌, ◌<◌, ◌+◌, IfOk, IfSome, MatchResult, Ok, OnOk, map, vec_len};
 ghost use Rattle.std.specs.Option.{ForSome};
 ghost use Rattle.latent_natives.specs.Devices.{SameKinds};
+ghost use Rattle.body_runner.specs.Faults.{CountsTurn};
 ghost use Rattle.stack_machine.specs.Choices.{chosen};
-ghost use Rattle.stack_machine.specs.Machine.{CountsTurn, HasStarted};
+ghost use Rattle.stack_machine.specs.Machine.{HasStarted};
 ghost use Rattle.stack_machine.specs.Moves.{AddsSome, AreOfBeginning, AreOfEnd, AreOfTurn, AreStarts, Begins, IsAct, Noted};
 ghost use Rattle.stack_machine.specs.Plans.{HasBegun, calls_before};
 ghost use Rattle.stack_machine.specs.Threads.{HasGrown, IsSameSize};
-ghost use Rattle.stack_machine.specs.Written.{WritesLines};
+ghost use Rattle.body_runner.specs.Written.{WritesLines};
 
-use crate::frame::{Call, CallWay, Frame};
 use crate::moves::{MoveSink, moves_between, note_any};
-use crate::operands::Turn;
-use crate::plan::PlannedCall;
-use crate::run::run_innermost;
-use crate::setting::Setting;
-use crate::status::{TurnEnd, TurnFault};
-use crate::store::{Store, copies};
+use crate::plan::{Plan, PlannedCall};
+use crate::status::TurnEnd;
 use crate::threads::Threads;
+use body_runner::{Call, CallWay, Frame, Setting, Store, Turn, TurnFault, copies, run_innermost};
 use core_tree::{Scene, TurnOrder};
 use latent_natives::Device;
 use papy_base::Made;
@@ -43,12 +40,13 @@ impl World {
     pub fn do_turn<S: Sink, N: MoveSink>(
         &mut self,
         setting: &Setting,
+        plan: &Plan,
         number: u32,
         sink: &mut S,
         devices: &mut Vec<Box<dyn Device>>,
         notes: &mut N,
     ) -> Result<TurnEnd, TurnFault>
-        requires { HasBegun setting.now.plan.calls.items setting.now.scene.calls.items self.old.threads number }
+        requires { HasBegun plan.now.calls.items setting.now.scene.calls.items self.old.threads number }
         ensures appended { WritesLines result (S.written sink.old) (S.written sink.new) }
         ensures count { CountsTurn result (S.faults sink.old) (S.faults sink.new) }
         ensures kinds { SameKinds (map (λ d. device_state d) devices.old.items) (map (λ d. device_state d) devices.new.items) }
@@ -58,7 +56,14 @@ impl World {
         ensures started { OnOk result (self.new.threads.started ≡ calls_before (number + 1) setting.now.scene.calls.items) }
         ensures noted { MatchResult result (λ end. Noted (AreOfTurn end self.old.threads.started self.new.threads.started) (N.noted notes.old) (N.noted notes.new)) (λ _. AddsSome (N.noted notes.old) (N.noted notes.new)) }
     {
-        begin(self.alloc, setting, &mut self.threads, number, notes)?;
+        begin(
+            self.alloc,
+            setting,
+            plan,
+            &mut self.threads,
+            number,
+            notes,
+        )?;
         let chosen = choose(&setting.scene, &self.threads, number, self.last);
         let Some(stack) = chosen else {
             notes.note(LockMove::Idle)?;
@@ -135,16 +140,17 @@ impl World {
 fn begin<N: MoveSink>(
     alloc: Global,
     setting: &Setting,
+    plan: &Plan,
     threads: &mut Threads,
     turn: u32,
     notes: &mut N,
 ) -> Made<()>
-    requires { HasBegun setting.now.plan.calls.items setting.now.scene.calls.items threads.old turn }
+    requires { HasBegun plan.now.calls.items setting.now.scene.calls.items threads.old turn }
     ensures grown { HasGrown threads.old threads.new }
     ensures started { OnOk result (threads.new.started ≡ calls_before (turn + 1) setting.now.scene.calls.items) }
     ensures noted { MatchResult result (λ _. Noted (AreOfBeginning threads.old.started threads.new.started) (N.noted notes.old) (N.noted notes.new)) (λ _. AddsSome (N.noted notes.old) (N.noted notes.new)) }
 {
-    start_stacks(alloc, setting, threads, turn, notes)?;
+    start_stacks(alloc, setting, plan, threads, turn, notes)?;
     threads.wake(turn, notes)
 }
 
@@ -152,16 +158,17 @@ fn begin<N: MoveSink>(
 fn start_stacks<N: MoveSink>(
     alloc: Global,
     setting: &Setting,
+    plan: &Plan,
     threads: &mut Threads,
     turn: u32,
     notes: &mut N,
 ) -> Made<()>
-    requires { HasBegun setting.now.plan.calls.items setting.now.scene.calls.items threads.old turn }
+    requires { HasBegun plan.now.calls.items setting.now.scene.calls.items threads.old turn }
     ensures grown { HasGrown threads.old threads.new }
     ensures started { OnOk result (threads.new.started ≡ calls_before (turn + 1) setting.now.scene.calls.items) }
     ensures noted { MatchResult result (λ _. Noted (AreStarts threads.old.started threads.new.started) (N.noted notes.old) (N.noted notes.new)) (λ _. AddsSome (N.noted notes.old) (N.noted notes.new)) }
 {
-    let calls = setting.plan.calls.as_slice();
+    let calls = plan.calls.as_slice();
     let first = usize::from(threads.count());
     for planned in &calls[first..] {
         if planned.turn > turn {

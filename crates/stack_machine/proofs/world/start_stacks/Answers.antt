@@ -16,7 +16,7 @@ loop-planned-init g c = record {
 
 pub loop-planned-preserved : goal.loop-planned-preserved
 loop-planned-preserved g c =
-    let planned : List PlannedCall = c.args.setting.now.plan.calls.items in
+    let planned : List PlannedCall = c.args.plan.now.calls.items in
     let place : ℕ = c.from-first.result + c.loop-planned.planned-index in
     let none : PlannedCall = record { turn = 0; number = 0; name = None } in
     let within : place < length planned = left_within _ planned c.from-first.result c.loop-planned.planned-index c.as_slice-calls.ensures.value c.loop-planned-test.true in
@@ -30,14 +30,14 @@ loop-planned-preserved g c =
 
 pub returns-after-loop-planned-clause-started : goal.returns-after-loop-planned-clause-started
 returns-after-loop-planned-clause-started g c =
-    let planned : List PlannedCall = c.args.setting.now.plan.calls.items in
+    let planned : List PlannedCall = c.args.plan.now.calls.items in
     let first : c.from-first.result ≤ length planned = omega (arith, c.from-first.ensures, c.count.ensures.number, c.count.ensures.within, c.requires.room, c.requires.calls_planned.many) in
     let past : length planned ≤ c.from-first.result + c.loop-planned.planned-index = left_past _ planned c.from-first.result c.loop-planned.planned-index c.as_slice-calls.ensures.value first c.loop-planned-test.false in
     none_is_left planned c.args.setting.now.scene.calls.items c.args.turn c.loop-planned.threads.started c.requires.calls_planned (omega (arith, past, c.loop-planned.invariant.started, c.from-first.ensures, c.count.ensures.number)) c.loop-planned.invariant.few
 
 pub returns-then-planned-turn-clause-started : goal.returns-then-planned-turn-clause-started
 returns-then-planned-turn-clause-started g c =
-    let planned : List PlannedCall = c.args.setting.now.plan.calls.items in
+    let planned : List PlannedCall = c.args.plan.now.calls.items in
     let place : ℕ = c.from-first.result + c.loop-planned.planned-index in
     let none : PlannedCall = record { turn = 0; number = 0; name = None } in
     let here : c.loop-planned.threads.started ≡ place = omega (arith, c.loop-planned.invariant.started, c.from-first.ensures, c.count.ensures.number) in

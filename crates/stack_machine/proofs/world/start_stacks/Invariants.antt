@@ -10,6 +10,6 @@ invariant-loop-planned g l =
     record {
       grown : HasGrown l.fn.threads l.threads;
       started : l.threads.started ≡ l.fn.threads.started + l.planned-index;
-      few : l.threads.started ≤ planned_before (l.turn + 1) l.setting.plan.calls.items;
+      few : l.threads.started ≤ planned_before (l.turn + 1) l.plan.calls.items;
       noted : Noted (AreStarts l.fn.threads.started l.threads.started) (notes.noted l.fn.notes) (notes.noted l.notes);
     }

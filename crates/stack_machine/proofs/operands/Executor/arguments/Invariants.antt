@@ -1,6 +1,0 @@
-use Rattle.std.proofs.Common.{◌≡◌, map, take}
-use Rattle.stack_machine.specs.Operands.{worth}
-use Rattle.stack_machine.proofs.operands.Executor.arguments.Given as goal
-
-abbrev pub invariant-loop-operand : goal.invariant-loop-operand
-invariant-loop-operand l = l.values.items ≡ map (worth l.self) (take l.operand-index l.operand-items)
