@@ -197,12 +197,7 @@ impl Home<'_> {
     }
 
     /// Stores the reply to a call.
-    pub fn give(
-        &self,
-        inner: &mut Inner<'_>,
-        call: &LoadedInstruction,
-        reply: Value,
-    ) -> Made<()> {
+    pub fn give(&self, inner: &mut Inner<'_>, call: &LoadedInstruction, reply: Value) -> Made<()> {
         match reply_result(call) {
             Some(operand) => self.write(inner, operand, reply),
             None => {

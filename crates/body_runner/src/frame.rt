@@ -3,8 +3,8 @@
 ghost use Rattle.std.specs.Prelude.{◌≤◌};
 
 use core_tree::Value;
-use machine_state::Way;
 use loaded_code::{MethodPlace, PropertyPlace};
+use machine_state::Way;
 
 /// The most frames of one stack.
 pub const FRAME_LIMIT: usize = 128;

@@ -97,10 +97,14 @@ impl Home<'_> {
             } => done(self.cmp_ge(inner, result, left, right)),
             LoadedInstruction::Jmp { landing, .. } => Ok(Step::Jump(*landing)),
             LoadedInstruction::JmpT {
-                condition, landing, ..
+                condition,
+                landing,
+                ..
             } => self.jump_if(inner, condition, true, *landing),
             LoadedInstruction::JmpF {
-                condition, landing, ..
+                condition,
+                landing,
+                ..
             } => self.jump_if(inner, condition, false, *landing),
             LoadedInstruction::CallMethod { .. } => Ok(Step::Leaves),
             LoadedInstruction::CallParent { .. } => Ok(Step::Leaves),
@@ -172,13 +176,7 @@ impl Home<'_> {
     // ---- numbers, truth values and texts
 
     // iadd
-    fn iadd(
-        &self,
-        inner: &mut Inner<'_>,
-        to: &Operand,
-        left: &Operand,
-        right: &Operand,
-    ) -> Made<()>
+    fn iadd(&self, inner: &mut Inner<'_>, to: &Operand, left: &Operand, right: &Operand) -> Made<()>
         ensures { OnOk result (Stores self.now inner.old inner.new to.now (values.Int (int_wrap w32 (number_of self.now inner.old left.now +ℤ number_of self.now inner.old right.now)))) }
     {
         let left = self.number(inner, left)?;
@@ -187,13 +185,7 @@ impl Home<'_> {
     }
 
     // isub
-    fn isub(
-        &self,
-        inner: &mut Inner<'_>,
-        to: &Operand,
-        left: &Operand,
-        right: &Operand,
-    ) -> Made<()>
+    fn isub(&self, inner: &mut Inner<'_>, to: &Operand, left: &Operand, right: &Operand) -> Made<()>
         ensures { OnOk result (Stores self.now inner.old inner.new to.now (values.Int (int_wrap w32 (number_of self.now inner.old left.now -ℤ number_of self.now inner.old right.now)))) }
     {
         let left = self.number(inner, left)?;
@@ -202,13 +194,7 @@ impl Home<'_> {
     }
 
     // imul
-    fn imul(
-        &self,
-        inner: &mut Inner<'_>,
-        to: &Operand,
-        left: &Operand,
-        right: &Operand,
-    ) -> Made<()>
+    fn imul(&self, inner: &mut Inner<'_>, to: &Operand, left: &Operand, right: &Operand) -> Made<()>
         ensures { OnOk result (Stores self.now inner.old inner.new to.now (values.Int (int_wrap w32 (number_of self.now inner.old left.now *ℤ number_of self.now inner.old right.now)))) }
     {
         let left = self.number(inner, left)?;
@@ -217,13 +203,7 @@ impl Home<'_> {
     }
 
     // idiv
-    fn idiv(
-        &self,
-        inner: &mut Inner<'_>,
-        to: &Operand,
-        left: &Operand,
-        right: &Operand,
-    ) -> Answer
+    fn idiv(&self, inner: &mut Inner<'_>, to: &Operand, left: &Operand, right: &Operand) -> Answer
         ensures { IfOk result (StoresQuotient self.now inner.old inner.new to.now (quotient (number_of self.now inner.old left.now) (number_of self.now inner.old right.now))) }
     {
         let left = self.number(inner, left)?;
@@ -235,13 +215,7 @@ impl Home<'_> {
     }
 
     // imod
-    fn imod(
-        &self,
-        inner: &mut Inner<'_>,
-        to: &Operand,
-        left: &Operand,
-        right: &Operand,
-    ) -> Answer
+    fn imod(&self, inner: &mut Inner<'_>, to: &Operand, left: &Operand, right: &Operand) -> Answer
         ensures { IfOk result (StoresQuotient self.now inner.old inner.new to.now (remainder (number_of self.now inner.old left.now) (number_of self.now inner.old right.now))) }
     {
         let left = self.number(inner, left)?;
@@ -361,13 +335,7 @@ impl Home<'_> {
         }
     }
 
-    fn join_texts(
-        &self,
-        inner: &mut Inner<'_>,
-        to: &Operand,
-        left: &Text,
-        right: &Text,
-    ) -> Answer
+    fn join_texts(&self, inner: &mut Inner<'_>, to: &Operand, left: &Text, right: &Text) -> Answer
         ensures joined { length left.now + length right.now ≤ 1024 → IfOk result (λ fault. Stores self.now inner.old inner.new to.now (values.Text (left.now ++ right.now)) × (fault ≡ None)) }
         ensures too_long { 1024 < length left.now + length right.now → IfOk result (λ fault. Stores self.now inner.old inner.new to.now (values.Text []) × (fault ≡ Some StackFault.TextTooLong)) }
     {

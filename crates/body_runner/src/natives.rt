@@ -12,16 +12,16 @@ ghost use Rattle.body_runner.specs.Settings.{method_at};
 ghost use Rattle.body_runner.specs.Values.{number_in};
 ghost use Rattle.body_runner.specs.Written.{WritesLines};
 
-use crate::casts::number_of;
-use crate::lines::trace_line;
 use crate::body::Turn;
-use crate::setting::Setting;
+use crate::casts::number_of;
 use crate::fault::TurnFault;
+use crate::lines::trace_line;
+use crate::setting::Setting;
 use core_tree::{Binding, CoreType, Value};
 use latent_natives::{Device, call_device};
+use loaded_code::MethodPlace;
 use papy_base::Made;
 use papy_io::Sink;
-use loaded_code::MethodPlace;
 use std::alloc::Global;
 
 /// The longest latency, in turns.

@@ -10,9 +10,9 @@ ghost use Rattle.body_runner.specs.Settings.{function_of, method_at, property_at
 use crate::bindings::Bindings;
 use crate::frame::{CallWay, LoadedBody};
 use core_tree::{CoreType, Scene};
+use loaded_code::{LoadedFunction, LoadedProperty, MethodPlace, Operand, PropertyPlace};
 use machine_state::{BodyPlace, Way};
 use papy_base::{Made, Name, is_below, lineage_of};
-use loaded_code::{LoadedFunction, LoadedProperty, MethodPlace, Operand, PropertyPlace};
 use pex_verify::Loaded;
 use std::alloc::Global;
 

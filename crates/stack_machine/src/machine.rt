@@ -192,10 +192,7 @@ impl Machine {
         if self.has_ended() {
             return Ok(TurnEnd::Ended);
         }
-        match self
-            .world
-            .do_turn(&self.setting, &self.plan, self.turns, sink, devices, notes)
-        {
+        match self.world.do_turn(&self.setting, &self.plan, self.turns, sink, devices, notes) {
             Ok(end) => {
                 self.turns += 1;
                 Ok(end)

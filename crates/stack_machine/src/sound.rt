@@ -8,7 +8,9 @@ ghost use Rattle.stack_machine.specs.Plans.{calls_before};
 use crate::restore::{ARRAY_LIMIT, ELEMENT_LIMIT};
 use crate::savable::{is_element_type, pairs_ascend, sleepers_ascend, stacks_ascend};
 use crate::threads::ALL_FRAMES;
-use body_runner::{CallWay, FRAME_LIMIT, Found, Setting, element_type, is_call, reply_result, slot_type};
+use body_runner::{
+    CallWay, FRAME_LIMIT, Found, Setting, element_type, is_call, reply_result, slot_type,
+};
 use core_tree::{BoundCall, CoreType, DeviceKind, Scene, Value};
 use loaded_code::LoadedFunction;
 use machine_state::{BodyPlace, FrameState, MachineState, Way};
@@ -224,9 +226,9 @@ impl JudgedState<'_> {
             return Ok(false);
         }
         // The type of what takes the result, none where anything is taken.
-        let taken = comes_to
-            .and_then(|found| reply_result(found))
-            .and_then(|operand| self.setting.type_of(at.script, function, operand));
+        let taken = comes_to.and_then(|found| reply_result(found)).and_then(|operand| self
+            .setting
+            .type_of(at.script, function, operand));
         let reply_fits = reply.as_ref().is_none_or(|value| match taken {
             Some(_) => self.fits(value, taken),
             None => self.is_there(value),

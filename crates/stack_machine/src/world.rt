@@ -56,14 +56,7 @@ impl World {
         ensures started { OnOk result (self.new.threads.started ≡ calls_before (number + 1) setting.now.scene.calls.items) }
         ensures noted { MatchResult result (λ end. Noted (AreOfTurn end self.old.threads.started self.new.threads.started) (N.noted notes.old) (N.noted notes.new)) (λ _. AddsSome (N.noted notes.old) (N.noted notes.new)) }
     {
-        begin(
-            self.alloc,
-            setting,
-            plan,
-            &mut self.threads,
-            number,
-            notes,
-        )?;
+        begin(self.alloc, setting, plan, &mut self.threads, number, notes)?;
         let chosen = choose(&setting.scene, &self.threads, number, self.last);
         let Some(stack) = chosen else {
             notes.note(LockMove::Idle)?;
