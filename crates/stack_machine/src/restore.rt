@@ -54,8 +54,16 @@ impl Machine {
         ensures devices { IfErr result (λ fault. LeavesDevices fault (map (λ d. device_state d) devices.old.items) (map (λ d. device_state d) devices.new.items)) }
         ensures kinds { SameKinds (map (λ d. device_state d) devices.old.items) (map (λ d. device_state d) devices.new.items) }
     {
-        let plan = Plan::of(alloc, &loaded, &scene)?;
-        let bindings = Bindings::of(alloc, loaded.outline(), &scene.natives)?;
+        let prepared = match prepare(alloc, &loaded, &scene) {
+            Ok(prepared) => prepared,
+            Err(_) => {
+                drop(state);
+                drop(scene);
+                drop(loaded);
+                return Err(RestoreFault::OutOfMemory);
+            }
+        };
+        let (bindings, plan) = prepared;
         let setting = Setting {
             loaded,
             scene,
@@ -80,6 +88,15 @@ impl Machine {
             }
         }
     }
+}
+
+// What is looked up once, at the start.
+fn prepare(alloc: Global, loaded: &Loaded, scene: &Scene) -> Made<(Bindings, Plan)>
+    ensures { IfOk result (λ prepared. ArePlanned prepared.1.calls.items scene.now.calls.items) }
+{
+    let bindings = Bindings::of(alloc, loaded.outline(), &scene.natives)?;
+    let plan = Plan::of(alloc, loaded, scene)?;
+    Ok((bindings, plan))
 }
 
 // The world that a state makes. The state's vectors of values are emptied.
