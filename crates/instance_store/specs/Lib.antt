@@ -1,3 +1,4 @@
 pub mod Arrays
 pub mod Instances
 pub mod Values
+pub mod Depths

@@ -1,9 +1,10 @@
 //! The instances of a world, and their variables.
 
-ghost use Rattle.std.specs.Prelude.{◌≡◌, ◌↔◌, ◌<◌, List, IfOk, OnErr, IsTrue, length, map, slice_get, slice_set};
+ghost use Rattle.std.specs.Prelude.{◌≡◌, ◌↔◌, ◌<◌, List, IfOk, IfSome, OnErr, IsTrue, length, map, slice_get, slice_set, vec_len};
 ghost use Rattle.std.specs.Option.{option_copied};
 ghost use Rattle.core_tree.specs.Values.{is_text};
-ghost use Rattle.instance_store.specs.Instances.{instance_at, place_of, values_of, variable_of, scripts_with, instance_with, auto_state_of, initial_values, initial_values_of, start_state, started};
+ghost use Rattle.instance_store.specs.Depths.{AreLevel, IsLevel};
+ghost use Rattle.instance_store.specs.Instances.{instance_at, place_of, values_of, variable_of, scripts_with, scripts_with_at, instance_with, auto_state_of, initial_values, initial_values_of, start_state, started};
 
 use core_tree::{BoundInstance, Outline, OutlineScript, OutlineVariable, Scene, Value};
 use papy_base::{Made, Name, Text, lineage_of};
@@ -87,10 +88,24 @@ impl Instance {
 }
 
 /// Writes a variable, if there is such a one.
-pub(crate) fn write(scripts: &mut Vec<ScriptVariables>, script: usize, variable: u16, value: Value)
+fn write(scripts: &mut Vec<ScriptVariables>, script: usize, variable: u16, value: Value)
     ensures { scripts.new.items ≡ scripts_with scripts.old.items script variable value }
 {
-    if let Some(place) = place_of(scripts.as_slice(), script) {
+    let place = place_of(scripts.as_slice(), script);
+    write_at(scripts, place, variable, value);
+}
+
+// Writes a variable of the script that stands at this place.
+fn write_at(
+    scripts: &mut Vec<ScriptVariables>,
+    place: Option<usize>,
+    variable: u16,
+    value: Value,
+)
+    requires { IfSome place (λ place. place < vec_len scripts.old) }
+    ensures { scripts.new.items ≡ scripts_with_at scripts.old.items place variable value }
+{
+    if let Some(place) = place {
         let values = &mut scripts[place].values;
         if let Some(held) = values.get_mut(usize::from(variable)) {
             *held = value;
@@ -99,7 +114,8 @@ pub(crate) fn write(scripts: &mut Vec<ScriptVariables>, script: usize, variable:
 }
 
 fn place_of(scripts: &[ScriptVariables], script: usize) -> Option<usize>
-    ensures { result ≡ place_of scripts.now script }
+    ensures found { result ≡ place_of scripts.now script }
+    ensures within { IfSome result (λ place. place < length scripts.now) }
 {
     scripts.iter().position(|part| part.script == script)
 }
@@ -109,15 +125,21 @@ fn place_of(scripts: &[ScriptVariables], script: usize) -> Option<usize>
 #[derive(Drop)]
 pub struct Instances {
     instances: Vec<Instance>,
+    // How many scripts stand above each script, by its number, so that the variables of a script that stands far above
+    // an instance's are found at once. Empty where the instances don't agree on it.
+    depths: Vec<usize>,
 }
 
 impl Model for Instances {
     ghost use Rattle.std.specs.Prelude.{List};
+    ghost use Rattle.instance_store.specs.Depths.{AreLevel};
     ghost use Rattle.instance_store.specs.Instances.{InstanceState};
 
     ghost Value = { List InstanceState };
 
     ghost view = { λ i. i.instances.items };
+
+    ghost invariant = { λ i. AreLevel i.depths.items i.instances.items };
 }
 
 impl Instances {
@@ -136,14 +158,32 @@ impl Instances {
         for instance in &scene.instances {
             instances.push(start_instance(alloc, &outline.scripts, instance)?)?;
         }
-        Ok(Instances { instances })
+        Instances::of(alloc, instances)
     }
 
     /// These instances, numbered in their order.
-    pub fn of(instances: Vec<Instance>) -> Instances
-        ensures { result ≡ instances.items }
+    ///
+    /// # Errors
+    ///
+    /// `OutOfMemory` comes where there is no room.
+    pub fn of(alloc: Global, instances: Vec<Instance>) -> Made<Instances>
+        ensures { IfOk result (λ made. made ≡ instances.items) }
     {
-        Instances { instances }
+        let depths = depths_of(alloc, instances.as_slice())?;
+        Ok(Instances { instances, depths })
+    }
+
+    // The place of a script among those of an instance.
+    fn place(&self, instance: usize, script: usize) -> Option<usize>
+        requires { instance < length self.now }
+        ensures found { result ≡ place_of (instance_at self.now instance).scripts script }
+        ensures within { IfSome result (λ place. place < length (instance_at self.now instance).scripts) }
+    {
+        let found = &self.instances[instance];
+        if self.depths.is_empty() {
+            return place_of(found.scripts.as_slice(), script);
+        }
+        place_at_depth(&self.depths, found.scripts.as_slice(), script)
     }
 
     /// The variables of an instance, script by script, from its own upward.
@@ -159,8 +199,16 @@ impl Instances {
     pub fn has_variable(&self, instance: u16, script: u16, variable: u16) -> bool
         ensures { IsTrue result ↔ ((instance < length self.now) × (variable < length (values_of (instance_at self.now instance).scripts script))) }
     {
-        let place = usize::from(instance);
-        place < self.instances.len() && self.instances[place].has(usize::from(script), variable)
+        let number = usize::from(instance);
+        if number >= self.instances.len() {
+            return false;
+        }
+        match self.place(number, usize::from(script)) {
+            Some(place) => {
+                usize::from(variable) < self.instances[number].scripts[place].values.len()
+            }
+            None => false,
+        }
     }
 
     /// The value of a variable that the script declares. `OutOfMemory` comes only of a text.
@@ -170,8 +218,11 @@ impl Instances {
         ensures value { IfOk result (λ value. value ≡ variable_of (instance_at self.now instance) script variable) }
         ensures memory { OnErr result (IsTrue (is_text (variable_of (instance_at self.now instance) script variable))) }
     {
-        let alloc = *self.instances.allocator();
-        self.instances[usize::from(instance)].get(alloc, usize::from(script), variable)
+        let (alloc, number) = (*self.instances.allocator(), usize::from(instance));
+        let Some(place) = self.place(number, usize::from(script)) else {
+            unreachable!();
+        };
+        self.instances[number].scripts[place].values[usize::from(variable)].try_clone(alloc)
     }
 
     /// Writes a variable that the script declares, and no other.
@@ -180,8 +231,9 @@ impl Instances {
         requires variable_in { variable < length (values_of (instance_at self.old instance).scripts script) }
         ensures { self.new ≡ slice_set self.old instance (instance_with (instance_at self.old instance) script variable value) }
     {
-        let scripts = &mut self.instances[usize::from(instance)].scripts;
-        write(scripts, usize::from(script), variable, value);
+        let number = usize::from(instance);
+        let place = self.place(number, usize::from(script));
+        write_at(&mut self.instances[number].scripts, place, variable, value);
     }
 
     /// The text of an instance's state.
@@ -199,6 +251,90 @@ impl Instances {
     {
         self.instances[usize::from(instance)].state = state;
     }
+}
+
+// ---- how far below their roots scripts stand
+
+fn depth_of(depths: &[usize], script: usize) -> Option<usize>
+    ensures { result ≡ slice_get depths.now script }
+{
+    depths.get(script).copied()
+}
+
+// The place of a script, where each stands as far before the end as there are scripts above it.
+fn place_at_depth(depths: &[usize], scripts: &[ScriptVariables], script: usize) -> Option<usize>
+    requires { IsLevel depths.now scripts.now }
+    ensures found { result ≡ place_of scripts.now script }
+    ensures within { IfSome result (λ place. place < length scripts.now) }
+{
+    let Some(depth) = depth_of(depths, script) else {
+        return None;
+    };
+    if depth >= scripts.len() {
+        return None;
+    }
+    let place = scripts.len() - depth - 1;
+    let found = &scripts[place];
+    if found.script != script {
+        return None;
+    }
+    Some(place)
+}
+
+// The depth of each script, none where these instances don't agree on it.
+fn depths_of(alloc: Global, instances: &[Instance]) -> Made<Vec<usize>>
+    ensures { IfOk result (λ depths. AreLevel depths.items instances.now) }
+{
+    let mut depths = vec![in alloc; 0; script_count(instances)]?;
+    for instance in instances {
+        note_depths(&mut depths, instance.scripts.as_slice());
+    }
+    if !are_level(depths.as_slice(), instances) {
+        return Ok(Vec::new(alloc));
+    }
+    Ok(depths)
+}
+
+fn are_level(depths: &[usize], instances: &[Instance]) -> bool
+    ensures { IsTrue result → AreLevel depths.now instances.now }
+{
+    for instance in instances {
+        if !is_level(depths, instance.scripts.as_slice()) {
+            return false;
+        }
+    }
+    true
+}
+
+// One more than the highest number of a script.
+fn script_count(instances: &[Instance]) -> usize {
+    let mut count = 0;
+    for instance in instances {
+        for part in &instance.scripts {
+            count = count.max(part.script.saturating_add(1));
+        }
+    }
+    count
+}
+
+fn note_depths(depths: &mut Vec<usize>, scripts: &[ScriptVariables]) {
+    for (place, part) in scripts.iter().enumerate() {
+        if let Some(depth) = depths.get_mut(part.script) {
+            *depth = scripts.len() - place - 1;
+        }
+    }
+}
+
+// Whether each script has as many behind it as its depth says.
+fn is_level(depths: &[usize], scripts: &[ScriptVariables]) -> bool
+    ensures { IsTrue result → IsLevel depths.now scripts.now }
+{
+    for (place, part) in scripts.iter().enumerate() {
+        if depth_of(depths, part.script) != Some(scripts.len() - place - 1) {
+            return false;
+        }
+    }
+    true
 }
 
 // ---- as they are at the start

@@ -176,13 +176,8 @@ fn revived_store(alloc: Global, setting: &Setting, state: &mut MachineState) -> 
     let arrays = revived_arrays(alloc, &mut state.arrays)?;
     let instances = revived_instances(alloc, setting, &mut state.instances)?;
     let count = instances.len();
-    Store::of(
-        alloc,
-        &setting.loaded,
-        Instances::of(instances),
-        arrays,
-        count,
-    )
+    let instances = Instances::of(alloc, instances)?;
+    Store::of(alloc, &setting.loaded, instances, arrays, count)
 }
 
 fn revived_arrays(alloc: Global, told: &mut Vec<(CoreType, Vec<Value>)>) -> Made<Arrays> {
