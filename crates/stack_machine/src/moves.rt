@@ -1,7 +1,7 @@
 //! The moves of stacks from one place to another, and who is told them.
 
 ghost use Rattle.std.specs.Prelude.{◌≡◌, ◌∷◌, [], List, Option, None, Some, IfSome, OnErr, OnOk};
-ghost use Rattle.std.specs.Option.{option_to_list};
+ghost use Rattle.std.specs.Option.{is_some, option_to_list};
 ghost use Rattle.run_replay.specs.declared.lock_move.LockMove.{LockMove};
 ghost use Rattle.stack_machine.specs.Moves.{Adds, Arrives, LetsGo};
 
@@ -11,6 +11,10 @@ use run_replay::{LockMove, StackPlace};
 /// What is told the moves of a turn, in order.
 pub trait MoveSink {
     ghost noted: { Self → Option (List LockMove) };
+
+    /// Whether moves are kept. Where they aren't, nobody need look for them.
+    fn keeps(&self) -> bool
+        ensures { result ≡ is_some (noted self.now) };
 
     /// Notes one more move.
     fn note(&mut self, moved: LockMove) -> Made<()>
@@ -25,6 +29,10 @@ pub struct NoNotes;
 impl MoveSink for NoNotes {
     ghost noted = { λ _. None };
 
+    fn keeps(&self) -> bool {
+        false
+    }
+
     fn note(&mut self, _moved: LockMove) -> Made<()> {
         Ok(())
     }
@@ -32,6 +40,10 @@ impl MoveSink for NoNotes {
 
 impl MoveSink for Vec<LockMove> {
     ghost noted = { λ moves. Some moves.items };
+
+    fn keeps(&self) -> bool {
+        true
+    }
 
     fn note(&mut self, moved: LockMove) -> Made<()> {
         self.push(moved)?;

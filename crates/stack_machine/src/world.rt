@@ -89,16 +89,27 @@ impl World {
     {
         notes.note(LockMove::Run(turn.stack))?;
         note_any(self.threads.take(turn.stack), notes)?;
-        let from = self.threads.place_of(turn.stack);
+        let from = match notes.keeps() {
+            true => Some(self.threads.place_of(turn.stack)),
+            false => None,
+        };
         self.run_stack(turn, sink, devices)?;
         self.note_act(turn.stack, from, notes)?;
         Ok(())
     }
 
-    // Notes the moves of a stack's act, which began at a place.
-    fn note_act<N: MoveSink>(&self, stack: u16, from: StackPlace, notes: &mut N) -> Made<()>
+    // Notes the moves of a stack's act, which began at a place. Where moves aren't kept, none is given.
+    fn note_act<N: MoveSink>(
+        &self,
+        stack: u16,
+        from: Option<StackPlace>,
+        notes: &mut N,
+    ) -> Made<()>
         ensures { MatchResult result (λ _. Noted (IsAct stack) (N.noted notes.old) (N.noted notes.new)) (λ _. AddsSome (N.noted notes.old) (N.noted notes.new)) }
     {
+        let Some(from) = from else {
+            return Ok(());
+        };
         let to = self.threads.place_of(stack);
         let Some((departure, arrival)) = moves_between(stack, from, to) else {
             return Ok(());
