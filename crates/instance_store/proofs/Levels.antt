@@ -41,23 +41,23 @@ unknown depths scripts s level none =
 pub too_deep : (depths : List ℕ) (scripts : List ScriptValues) (s d : ℕ) → IsLevel depths scripts → slice_get depths s ≡ Some d → length scripts ≤ d → place_of scripts s ≡ None
 too_deep depths scripts s d level known deep =
     nowhere scripts s (λ k within same.
-        let at : Some d ≡ Some (length scripts - suc k) = sym known ∙ told depths scripts s k level within same in
-        grind (arith, at, deep, within))
+    let at : Some d ≡ Some (length scripts - suc k) = sym known ∙ told depths scripts s k level within same in
+    grind (arith, at, deep, within))
 
 -- where another script stands at that depth
 pub other : (depths : List ℕ) (scripts : List ScriptValues) (s d : ℕ) → IsLevel depths scripts → slice_get depths s ≡ Some d → d < length scripts → (number_at scripts (length scripts - d - 1) ≡ s → ⊥) → place_of scripts s ≡ None
 other depths scripts s d level known within differs =
     nowhere scripts s (λ k below same.
-        let at : Some d ≡ Some (length scripts - suc k) = sym known ∙ told depths scripts s k level below same in
-        let place : k ≡ length scripts - d - 1 = grind (arith, at, below, within) in
-        differs (ap (λ n. number_at scripts n) (sym place) ∙ same))
+    let at : Some d ≡ Some (length scripts - suc k) = sym known ∙ told depths scripts s k level below same in
+    let place : k ≡ length scripts - d - 1 = grind (arith, at, below, within) in
+    differs (ap (λ n. number_at scripts n) (sym place) ∙ same))
 
 pub found : (depths : List ℕ) (scripts : List ScriptValues) (s d : ℕ) → IsLevel depths scripts → slice_get depths s ≡ Some d → d < length scripts → number_at scripts (length scripts - d - 1) ≡ s → place_of scripts s ≡ Some (length scripts - d - 1)
 found depths scripts s d level known within here =
     let place = length scripts - d - 1 in
     let small : place < length scripts = omega (arith, within) in
     let first : position_or_len (λ (part : ScriptValues). nat_eq part.script s) scripts ≡ place = position_or_len_is (λ part. nat_eq part.script s) scripts place no_script (omega (arith, small)) (λ k before. differ (number_at scripts k) s (λ same.
-        let at : Some d ≡ Some (length scripts - suc k) = sym known ∙ told depths scripts s k level (omega (arith, before, small)) same in
-        let e : k ≡ place = grind (arith, at, before, within) in
-        omega (arith, e, before))) (λ h. eq-eqb (number_at scripts place) s here) in
+    let at : Some d ≡ Some (length scripts - suc k) = sym known ∙ told depths scripts s k level (omega (arith, before, small)) same in
+    let e : k ≡ place = grind (arith, at, before, within) in
+    omega (arith, e, before))) (λ h. eq-eqb (number_at scripts place) s here) in
     grind (arith, first, small)

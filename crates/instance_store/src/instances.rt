@@ -96,12 +96,7 @@ fn write(scripts: &mut Vec<ScriptVariables>, script: usize, variable: u16, value
 }
 
 // Writes a variable of the script that stands at this place.
-fn write_at(
-    scripts: &mut Vec<ScriptVariables>,
-    place: Option<usize>,
-    variable: u16,
-    value: Value,
-)
+fn write_at(scripts: &mut Vec<ScriptVariables>, place: Option<usize>, variable: u16, value: Value)
     requires { IfSome place (λ place. place < vec_len scripts.old) }
     ensures { scripts.new.items ≡ scripts_with_at scripts.old.items place variable value }
 {

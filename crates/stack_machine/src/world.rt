@@ -99,12 +99,7 @@ impl World {
     }
 
     // Notes the moves of a stack's act, which began at a place. Where moves aren't kept, none is given.
-    fn note_act<N: MoveSink>(
-        &self,
-        stack: u16,
-        from: Option<StackPlace>,
-        notes: &mut N,
-    ) -> Made<()>
+    fn note_act<N: MoveSink>(&self, stack: u16, from: Option<StackPlace>, notes: &mut N) -> Made<()>
         ensures { MatchResult result (λ _. Noted (IsAct stack) (N.noted notes.old) (N.noted notes.new)) (λ _. AddsSome (N.noted notes.old) (N.noted notes.new)) }
     {
         let Some(from) = from else {
