@@ -1,14 +1,14 @@
 #!/usr/bin/env python3
 """Writes docs/rule_index.md: each rule with the code that tells it, its definition, and the tests and cases that show it.
 
-What is written is computed from rules.md, the crates and the cases. docs/check_pages.py says whether the page is up to date.
+What is written is computed from rules.md, the crates and the cases. checks/check_pages.py says whether the page is up to date.
 """
 import pathlib
 import re
 import sys
 
-DOCS = pathlib.Path(__file__).resolve().parent
-ROOT = DOCS.parent
+ROOT = pathlib.Path(__file__).resolve().parent.parent
+DOCS = ROOT / "docs"
 CRATES = ROOT / "crates"
 CASES = ROOT / "cases"
 # The pages on which all rules of a letter are defined in words; of the others rules.md says all.
@@ -29,7 +29,7 @@ HEAD = """# Index of rules
 
 Where each rule is told, defined and shown. [rules.md](rules.md) has each with an example and how to mend it. The definitions in words are those of the
 pages; where a rule has one in the language of contracts too, its file stands beside it. This page is written by
-[`docs/make_rule_index.py`](make_rule_index.py): change nothing here, but call it again when rules, tests or cases have changed.
+[`checks/make_rule_index.py`](../checks/make_rule_index.py): change nothing here, but call it again when rules, tests or cases have changed.
 """
 
 
