@@ -18,6 +18,7 @@ DEFINED = {
     "N": "language.md#rules-of-sets",
     "K": "language.md#rules-of-types-and-names",
     "P": "pex.md#when-bytes-are-refused",
+    "C": "scenes.md#rules",
     "G": "pex.md#from-a-listing-to-a-file",
     "V": "verification.md#rules",
 }
@@ -133,7 +134,7 @@ class Shown:
 def row(code, name, kind, sources, shown):
     heading = f"{code.lower()}-{name.lower()}"
     example = "rules.md#c-scenes" if code[0] == "C" else f"rules.md#{heading}"
-    words = f"scenes.md#{heading}" if code[0] == "C" else DEFINED.get(code[0], example)
+    words = DEFINED.get(code[0], example)
     definitions = [f"[{words.partition('#')[0]}]({words})", *map(linked, sources.defining(kind, name))]
     cells = [
         f"[{code} {name}]({example})",
