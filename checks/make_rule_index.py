@@ -29,7 +29,7 @@ CASES_SHOWN = 3
 HEAD = """# Index of rules
 
 Where each rule is told, defined and shown. [rules.md](rules.md) has each with an example and how to mend it. The definitions in words are those of the
-pages; where a rule has one in the language of contracts too, its file stands beside it. This page is written by
+pages; where a rule has one in the language of contracts too, its file stands beside it. Behind a file of rows stands how many of them show the rule. This page is written by
 [`checks/make_rule_index.py`](../checks/make_rule_index.py): change nothing here, but call it again when rules, tests or cases have changed.
 """
 
@@ -127,7 +127,7 @@ class Shown:
         if len(cases) > CASES_SHOWN:
             words.append(f"{len(cases) - CASES_SHOWN} more")
         for file, count in sorted(self.rows.get(rule, {}).items()):
-            words.append(f"{count} {'row' if count == 1 else 'rows'} of [{file}](../cases/{file})")
+            words.append(f"[{file}](../cases/{file}): {count}")
         return ", ".join(words)
 
 
