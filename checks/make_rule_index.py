@@ -28,8 +28,8 @@ HEADING = re.compile(r"^### ([A-Z]\d+) (\w+)$|^\| ([A-Z]\d+) (\w+) \|", re.MULTI
 CASES_SHOWN = 3
 HEAD = """# Index of rules
 
-Where each rule is told, defined and shown. [rules.md](rules.md) has each with an example and how to mend it. The definitions in words are those of the
-pages; where a rule has one in the language of contracts too, its file stands beside it. Behind a file of rows stands how many of them show the rule. This page is written by
+Where each rule is told, defined and shown. [rules.md](rules.md) has each with an example and how to mend it. The definitions in words are those of the pages; files of definitions in the language of contracts that speak of the rule stand beside them.
+Behind a file of rows stands how many of them show the rule. This page is written by
 [`checks/make_rule_index.py`](../checks/make_rule_index.py): change nothing here, but call it again when rules, tests or cases have changed.
 """
 
@@ -73,7 +73,9 @@ def defined_in(text):
     kinds = re.findall(r"\b(\w+Rule)\.TheVariants", text)
     lines = [line for line in text.splitlines() if "rule_number" not in line and "_rule_text" not in line]
     names = re.findall(r"\.([A-Z]\w+)", "\n".join(lines)) if kinds else []
-    return {f"{kind}::{name}" for kind in kinds for name in names}
+    imported = [(kind, name) for kind, listed in re.findall(r"\b(\w+Rule)\.TheVariants\.\{([^}]*)\}", text) for name in re.findall(r"\w+", listed)]
+    used = {f"{kind}::{name}" for kind, name in imported if len(re.findall(rf"\b{name}\b", text)) > 1}
+    return used | {f"{kind}::{name}" for kind in kinds for name in names}
 
 
 class Sources:
