@@ -23,9 +23,9 @@ import subprocess
 import sys
 import tempfile
 
-DOCS = pathlib.Path(__file__).resolve().parent
-ROOT = DOCS.parent
-sys.path[:0] = [str(DOCS), str(ROOT / "tools"), str(ROOT / "tools" / "shell")]
+ROOT = pathlib.Path(__file__).resolve().parent.parent
+DOCS = ROOT / "docs"
+sys.path[:0] = [str(ROOT / "checks"), str(ROOT / "tools"), str(ROOT / "tools" / "shell")]
 import check_examples
 import check_pages
 import explain

@@ -24,9 +24,9 @@ import sys
 import tempfile
 import time
 
-DOCS = pathlib.Path(__file__).resolve().parent
-ROOT = DOCS.parent
-sys.path[:0] = [str(DOCS), str(ROOT / "tools")]
+ROOT = pathlib.Path(__file__).resolve().parent.parent
+DOCS = ROOT / "docs"
+sys.path[:0] = [str(ROOT / "checks"), str(ROOT / "tools")]
 import check_examples
 import check_pages
 from exploring.outcomes import kept

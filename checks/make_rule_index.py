@@ -1,14 +1,14 @@
 #!/usr/bin/env python3
 """Writes docs/rule_index.md: each rule with the code that tells it, its definition, and the tests and cases that show it.
 
-What is written is computed from rules.md, the crates and the cases. docs/check_pages.py says whether the page is up to date.
+What is written is computed from rules.md, the crates and the cases. checks/check_pages.py says whether the page is up to date.
 """
 import pathlib
 import re
 import sys
 
-DOCS = pathlib.Path(__file__).resolve().parent
-ROOT = DOCS.parent
+ROOT = pathlib.Path(__file__).resolve().parent.parent
+DOCS = ROOT / "docs"
 CRATES = ROOT / "crates"
 CASES = ROOT / "cases"
 # The pages on which all rules of a letter are defined in words; of the others rules.md says all.
@@ -18,6 +18,7 @@ DEFINED = {
     "N": "language.md#rules-of-sets",
     "K": "language.md#rules-of-types-and-names",
     "P": "pex.md#when-bytes-are-refused",
+    "C": "scenes.md#rules",
     "G": "pex.md#from-a-listing-to-a-file",
     "V": "verification.md#rules",
 }
@@ -27,9 +28,9 @@ HEADING = re.compile(r"^### ([A-Z]\d+) (\w+)$|^\| ([A-Z]\d+) (\w+) \|", re.MULTI
 CASES_SHOWN = 3
 HEAD = """# Index of rules
 
-Where each rule is told, defined and shown. [rules.md](rules.md) has each with an example and how to mend it. The definitions in words are those of the
-pages; where a rule has one in the language of contracts too, its file stands beside it. This page is written by
-[`docs/make_rule_index.py`](make_rule_index.py): change nothing here, but call it again when rules, tests or cases have changed.
+Where each rule is told, defined and shown. [rules.md](rules.md) has each with an example and how to mend it. The definitions in words are those of the pages; files of definitions in the language of contracts that speak of the rule stand beside them.
+Behind a file of rows stands how many of them show the rule. This page is written by
+[`checks/make_rule_index.py`](../checks/make_rule_index.py): change nothing here, but call it again when rules, tests or cases have changed.
 """
 
 
@@ -72,7 +73,9 @@ def defined_in(text):
     kinds = re.findall(r"\b(\w+Rule)\.TheVariants", text)
     lines = [line for line in text.splitlines() if "rule_number" not in line and "_rule_text" not in line]
     names = re.findall(r"\.([A-Z]\w+)", "\n".join(lines)) if kinds else []
-    return {f"{kind}::{name}" for kind in kinds for name in names}
+    imported = [(kind, name) for kind, listed in re.findall(r"\b(\w+Rule)\.TheVariants\.\{([^}]*)\}", text) for name in re.findall(r"\w+", listed)]
+    used = {f"{kind}::{name}" for kind, name in imported if len(re.findall(rf"\b{name}\b", text)) > 1}
+    return used | {f"{kind}::{name}" for kind in kinds for name in names}
 
 
 class Sources:
@@ -126,14 +129,14 @@ class Shown:
         if len(cases) > CASES_SHOWN:
             words.append(f"{len(cases) - CASES_SHOWN} more")
         for file, count in sorted(self.rows.get(rule, {}).items()):
-            words.append(f"{count} {'row' if count == 1 else 'rows'} of [{file}](../cases/{file})")
+            words.append(f"[{file}](../cases/{file}): {count}")
         return ", ".join(words)
 
 
 def row(code, name, kind, sources, shown):
     heading = f"{code.lower()}-{name.lower()}"
     example = "rules.md#c-scenes" if code[0] == "C" else f"rules.md#{heading}"
-    words = f"scenes.md#{heading}" if code[0] == "C" else DEFINED.get(code[0], example)
+    words = DEFINED.get(code[0], example)
     definitions = [f"[{words.partition('#')[0]}]({words})", *map(linked, sources.defining(kind, name))]
     cells = [
         f"[{code} {name}]({example})",

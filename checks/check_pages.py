@@ -22,9 +22,9 @@ import re
 import subprocess
 import sys
 
-DOCS = pathlib.Path(__file__).resolve().parent
-ROOT = DOCS.parent
-sys.path[:0] = [str(DOCS), str(ROOT / "tools" / "shell")]
+ROOT = pathlib.Path(__file__).resolve().parent.parent
+DOCS = ROOT / "docs"
+sys.path[:0] = [str(ROOT / "checks"), str(ROOT / "tools" / "shell")]
 import check_examples
 import json_schema
 import make
@@ -114,7 +114,7 @@ def check_links(tally):
 def check_index(tally):
     there = (DOCS / "rule_index.md").read_text() if (DOCS / "rule_index.md").exists() else ""
     sources, shown = make_rule_index.Sources(), make_rule_index.Shown()
-    tally.note("" if there == make_rule_index.page(sources, shown) else "docs/rule_index.md isn't up to date: call docs/make_rule_index.py")
+    tally.note("" if there == make_rule_index.page(sources, shown) else "docs/rule_index.md isn't up to date: call checks/make_rule_index.py")
     for fault in make_rule_index.bare(sources, shown):
         tally.note(fault)
 

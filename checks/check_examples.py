@@ -34,12 +34,13 @@ import sys
 import tempfile
 import turn_tables
 
-DOCS = pathlib.Path(__file__).resolve().parent
-BUILT = DOCS.parent / "crates" / "papyrus" / "out"
+ROOT = pathlib.Path(__file__).resolve().parent.parent
+DOCS = ROOT / "docs"
+BUILT = ROOT / "crates" / "papyrus" / "out"
 LAST_BUILT = max(BUILT / "papyrus", BUILT / "unproved" / "papyrus", key=lambda path: path.stat().st_mtime if path.exists() else 0)
 PROGRAM = pathlib.Path(os.environ.get("PAPYRUS_PROGRAM") or LAST_BUILT)
-EXAMPLES = DOCS.parent / "examples"
-TOOLS = DOCS.parent / "tools"
+EXAMPLES = ROOT / "examples"
+TOOLS = ROOT / "tools"
 REFUSAL = re.compile(r"[^ ]+: (?:[^ ]+ )?([LSNKPGVCJ])\d+ [A-Za-z]+")
 SECONDS = 60
 JOURNAL_TABLE = re.compile(r"\| Journal \| Script \|")
@@ -251,7 +252,7 @@ def main():
         print("the program isn't built: run ./papyrus --version first")
         return 2
     count, wrong = 0, []
-    for path in words.pages or [DOCS.parent / "README.md", *sorted(DOCS.glob("*.md")), *sorted(EXAMPLES.rglob("*.md"))]:
+    for path in words.pages or [ROOT / "README.md", *sorted(DOCS.rglob("*.md")), *sorted(EXAMPLES.rglob("*.md"))]:
         page = Page(path, words.program.resolve())
         page.run()
         count += page.count
