@@ -21,10 +21,10 @@ use Rattle.pex_verify.specs.declared.sources.SetFile.{SetFile}
 use Rattle.pex_verify.specs.Agreement.{HaveTypesOf}
 use Rattle.pex_verify.specs.Found.{parent_of}
 use Rattle.pex_verify.specs.Heads.{Placed}
-use Rattle.pex_verify.specs.Plain.{outline_of, script_named, script_or}
-use Rattle.pex_verify.specs.Sets.{LoadedSet}
+use Rattle.pex_verify.specs.JudgedCode.{outline_of, script_named, script_or}
+use Rattle.pex_verify.specs.Sets.{JudgedSet}
 use Rattle.pex_verify.specs.Signatures.{title_at}
-use Rattle.pex_verify.specs.Whole.{IsWholeSet}
+use Rattle.pex_verify.specs.Whole.{IsJudgedSet}
 use Rattle.pex_verify.proofs.Agreeing.{zip_from_paired}
 use Rattle.pex_verify.proofs.Context.{tables, parents, objects, heads}
 use Rattle.pex_verify.proofs.Facts.{outline_count, heads_count, parents_count, object_is, source_named, title_number, parent_within, parent_by_heads, outline_parent, item_at}
@@ -38,7 +38,7 @@ no_rank_past spans above rank past h =
     none : (rank : ℕ) → has no_ranks rank ≡ false
     none rank = and_right (nat_le 0 rank) (nat_lt rank 0) (le-ltb rank 0 (omega arith))
 
-module _ {set : LoadedSet} (whole : IsWholeSet set) where
+module _ {set : JudgedSet} (whole : IsJudgedSet set) where
   pub heads_length : vec_len (tables whole).heads ≡ length (objects whole)
   heads_length = (tables whole).heads.ok.0 ∙ heads_count whole
 

@@ -15,8 +15,8 @@ use Rattle.pex_verify.specs.declared.action.Action.{Action}
 use Rattle.pex_verify.specs.declared.action.Action.TheVariants as action
 use Rattle.pex_verify.specs.declared.action.Use.{Use}
 use Rattle.pex_verify.specs.declared.action.Use.TheVariants.{Name}
-use Rattle.pex_verify.specs.declared.loaded.Operand.{Operand}
-use Rattle.pex_verify.specs.declared.loaded.Operand.TheVariants as loaded
+use Rattle.pex_verify.specs.declared.judged.JudgedOperand.{JudgedOperand as Operand}
+use Rattle.pex_verify.specs.declared.judged.JudgedOperand.TheVariants as loaded
 use Rattle.pex_verify.specs.declared.operand_rules.Lookup.{Lookup}
 use Rattle.pex_verify.specs.declared.operand_rules.Lookup.TheVariants.{Unsought, Missing, Function, Property}
 use Rattle.pex_verify.specs.declared.scope.FunctionScope.{FunctionScope}
@@ -27,7 +27,7 @@ use Rattle.pex_verify.specs.Found.{Allows, AreTold, IsSpelled, LooksUp, name_by,
 use Rattle.pex_verify.specs.Judged.{IsJudged, IsJudgedAs}
 use Rattle.pex_verify.specs.Fitting.{FitsIn}
 use Rattle.pex_verify.specs.Judgement.{IsSeenIn, spans_of, type_by}
-use Rattle.pex_verify.specs.Plain.{Operands, forms, instruction_by, name_of, none, number_of, operand_of, script_named}
+use Rattle.pex_verify.specs.JudgedCode.{Operands, forms, instruction_by, name_of, none, number_of, operand_of, script_named}
 use Rattle.pex_verify.specs.Uses.{action_table, use_at, uses_of}
 use Rattle.pex_verify.proofs.Typing.{gives_result, seen, takes_cast, takes_value}
 use Rattle.pex_verify.proofs.TypedCalls.{calls_method, calls_parent, calls_static, gets_property, object_below, sets_property}

@@ -10,17 +10,18 @@ use Rattle.core_tree.specs.Values.{element_kind}
 use Rattle.code_meaning.specs.Code.{Function, Script, Slot}
 use Rattle.code_meaning.specs.Operands.{kind_in, type_of, variables_in}
 use Rattle.run_laws.specs.TypedCode.{Scope, Gives, GivesArray, IsPlace, Stores, Compares, Computes as ComputesTyped, Searches}
-use Rattle.pex_verify.specs.declared.loaded.Operand.{Operand}
-use Rattle.pex_verify.specs.declared.loaded.Operand.TheVariants as loaded
+use Rattle.pex_verify.specs.declared.judged.JudgedOperand.{JudgedOperand as Operand}
+use Rattle.pex_verify.specs.declared.judged.JudgedOperand.TheVariants as loaded
 use Rattle.pex_verify.specs.declared.scope.FunctionScope.{FunctionScope}
 use Rattle.pex_verify.specs.declared.value_type.ValueType.{ValueType}
 use Rattle.pex_verify.specs.declared.value_type.ValueType.TheVariants.{Nothing, Float, Unknown, Of}
-use Rattle.pex_verify.specs.Accepted.{Computes, Compare, IsArrayWith, IsSize, Creates, Measures, GetsElement, SetsElement, Finds}
+use Rattle.pex_verify.specs.Accepted.{Computes, Compare, IsArrayWith, Creates, Measures, GetsElement, SetsElement, Finds}
+use Rattle.pex_verify.specs.Soundness.{IsSize}
 use Rattle.pex_verify.specs.Agreement.{HaveTypesOf, Stands}
 use Rattle.pex_verify.specs.Fitting.{FitsIn}
 use Rattle.pex_verify.specs.Judgement.{IsFor, IsSeenIn, Takes, spans_of, type_by}
 use Rattle.pex_verify.specs.Meanings.{element_type}
-use Rattle.pex_verify.specs.Plain.{number_of, operand_of}
+use Rattle.pex_verify.specs.JudgedCode.{number_of, operand_of}
 use Rattle.pex_verify.specs.Types.{IsTypeAmong, IsValueTypeAmong}
 use Rattle.pex_verify.proofs.Typing.{Means, gives, gives_none, gives_own, never_fits, never_float, only_none, slot_means, stores, type_among, variable_is}
 
