@@ -1,6 +1,8 @@
 -- What the last step of loading keeps: loaded code means what the judged code means of which it is made.
 use Rattle.std.specs.Prelude.{◌≡◌, ℕ, List, map, Option, Some, None, slice_get}
 use Rattle.std.specs.List.{AllZip}
+use Rattle.std.specs.declared.alloc.Global.{Global}
+use Rattle.std.specs.declared.vec.Vec.{Vec}
 use Rattle.core_tree.specs.Outlines.{ScriptShape, script_shape}
 use Rattle.loaded_code.specs.declared.instruction.LoadedInstruction.{LoadedInstruction}
 use Rattle.loaded_code.specs.declared.operand.Operand.{Operand}
@@ -8,6 +10,7 @@ use Rattle.loaded_code.specs.declared.script.LoadedFunction.{LoadedFunction}
 use Rattle.loaded_code.specs.declared.script.LoadedProperty.{LoadedProperty}
 use Rattle.loaded_code.specs.declared.script.LoadedScript.{LoadedScript}
 use Rattle.loaded_code.specs.Plain as loaded
+use Rattle.papy_base.specs.declared.name.Name.{Name}
 use Rattle.pex_verify.specs.declared.coded.ScriptNames.{ScriptNames}
 use Rattle.pex_verify.specs.declared.form.PlainForm.{PlainForm}
 use Rattle.pex_verify.specs.declared.form.PlainForm.TheVariants as plain
@@ -59,9 +62,13 @@ pub record CodesScript (outline : List ScriptShape) (script : JudgedScript) (cod
 
 -- a function that may be there
 abbrev pub CodesWhere : List ScriptShape → Option JudgedFunction → Option LoadedFunction → Type 0
-CodesWhere outline None None = ⊤
+CodesWhere outline None None = Unit {0}
 CodesWhere outline (Some function) (Some coded) = CodesFunction outline function coded
 CodesWhere outline _ _ = ⊥
 
 abbrev pub AreCodesOf : List ScriptShape → List JudgedFunction → List LoadedFunction → Type 0
 AreCodesOf outline functions coded = AllZip (CodesFunction outline) functions coded
+
+-- a state by its name
+abbrev pub CodesState : List ScriptShape → Name × Vec JudgedFunction Global → Name × Vec LoadedFunction Global → Type 0
+CodesState outline state coded = (coded.0 ≡ state.0) × AreCodesOf outline state.1.items coded.1.items

@@ -1,10 +1,10 @@
 // The last step of loading: judged code becomes loaded code, which means the same.
-ghost use Rattle.std.specs.Prelude.{◌≡◌, ℕ, ◌+◌, [], Some, IfOk, IfSome, OnOk, slice_get};
+ghost use Rattle.std.specs.Prelude.{◌≡◌, ◌<◌, ℕ, ◌+◌, [], Some, IfOk, IfSome, OnOk, slice_get};
 ghost use Rattle.std.specs.List.{AllZip};
 ghost use Rattle.loaded_code.specs.Plain as loaded;
 ghost use Rattle.pex_verify.specs.Accepted.{at};
 ghost use Rattle.pex_verify.specs.Coded.{CodePlace, IsCoded};
-ghost use Rattle.pex_verify.specs.Coding.{AreNamed, AreCodesOf, CodesFunction, CodesInstruction, CodesOperand, CodesProperty, CodesScript, CodesWhere, FitsPlain, outline_in};
+ghost use Rattle.pex_verify.specs.Coding.{AreNamed, AreCodesOf, CodesFunction, CodesInstruction, CodesOperand, CodesProperty, CodesScript, CodesState, CodesWhere, FitsPlain, outline_in};
 ghost use Rattle.pex_verify.specs.JudgedCode as judged;
 ghost use Rattle.pex_verify.specs.JudgedCode.{by_form, given};
 ghost use Rattle.pex_verify.specs.Soundness.{IsSize, LeadsBy};
@@ -620,7 +620,7 @@ type LoadedState = (Name, Vec<LoadedFunction>);
 
 fn coded_states(scripts: &ScriptNames<'_>, states: Vec<JudgedState>) -> Made<Vec<LoadedState>>
     requires { AreNamed scripts.now }
-    ensures { IfOk result (λ coded. AllZip (λ state loaded. (loaded.0 ≡ state.0) × AreCodesOf (outline_in scripts.now) state.1.items loaded.1.items) states.items coded.items) }
+    ensures { IfOk result (λ coded. AllZip (CodesState (outline_in scripts.now)) states.items coded.items) }
 {
     let mut coded = Vec::with_capacity(scripts.alloc, states.len())?;
     for (name, functions) in states {

@@ -2,7 +2,7 @@
 ghost use Rattle.std.specs.Prelude.{◌≡◌, vec_len, IfOk, ◌<◌, ◌≤◌, ◌+ℤ◌, ℕ, pos, length, IfSome, Some, option_copied};
 ghost use Rattle.pex_verify.specs.Found.{AreTold, IsTold, Allows};
 ghost use Rattle.pex_verify.specs.Uses.{use_at as use_in, action_of as action_by};
-ghost use Rattle.pex_verify.specs.Soundness.{IsResolved, AreResolved, IsSoundInstruction, Leads, LeadsBy};
+ghost use Rattle.pex_verify.specs.Soundness.{IsResolved, AreResolved, IsSoundInstruction, HasSize, Leads, LeadsBy};
 ghost use Rattle.pex_values.specs.declared.values.Datum.TheVariants.{Word};
 ghost use Rattle.pex_verify.specs.Accepted.{HasInstance, OperandsFit};
 ghost use Rattle.pex_verify.specs.Judged.{IsTypedIn};
@@ -143,6 +143,7 @@ fn broken_rule(
 ) -> Option<VerifyRule>
     ensures instance { result ≡ None → HasInstance scope.now action }
     ensures fit { result ≡ None → OperandsFit scope.now action fixed.now more.now found.entry }
+    ensures size { result ≡ None → HasSize (Some action) fixed.now }
     ensures allowed { result ≡ None → Allows action (length more.now) found.entry }
 {
     // A call of a parent's method uses the instance, and a global function has none.

@@ -6,6 +6,7 @@ ghost use Rattle.pex_verify.specs.Places.{IsFoundAmong};
 ghost use Rattle.pex_verify.specs.Judgement.{IsFor, Takes, type_by};
 ghost use Rattle.pex_verify.specs.Meanings.{element_type};
 ghost use Rattle.pex_verify.specs.Accepted as accepted;
+ghost use Rattle.pex_verify.specs.Soundness.{IsSize};
 
 use crate::action::Action;
 use crate::fault::VerifyRule;
@@ -242,7 +243,7 @@ fn is_name(operand: &JudgedOperand) -> bool {
 
 // Whether the operand is a number of elements that stands in the code.
 fn is_size(operand: &JudgedOperand) -> bool
-    ensures { IsTrue result → accepted.IsSize operand.now }
+    ensures { IsTrue result → IsSize operand.now }
 {
     matches!(operand, JudgedOperand::Int(size) if 1 <= *size && *size <= ARRAY_LIMIT)
 }

@@ -73,6 +73,7 @@ struct CodedTables {
 
 fn coded_tables(alloc: Global, table: &NameNumbers, tables: Tables) -> Made<CodedTables>
     requires { NameScripts table.now tables.objects tables.parts.outlines.items }
+    ensures count { IfOk result (λ coded. vec_len coded.scripts ≡ vec_len tables.parts.scripts) }
     ensures outlines { IfOk result (λ coded. coded.outlines.items ≡ tables.parts.outlines.items) }
     ensures scripts { IfOk result (λ coded. AllZip (CodesScript (map script_shape tables.parts.outlines.items)) tables.parts.scripts.items coded.scripts.items) }
 {
