@@ -1,5 +1,5 @@
 -- What loaded code means, by what it was made of.
-use Rattle.std.proofs.Common.{◌≡◌, ℕ, zero, suc, ◌+◌, ◌<◌, List, [], ◌∷◌, ◌++◌, length, Option, Some, None, map, All, refl, sym, ap, subst, ◌∙◌, arith, vec_len}
+use Rattle.std.proofs.Common.{◌≡◌, ℕ, zero, suc, ◌+◌, ◌<◌, List, [], ◌∷◌, ◌++◌, length, Option, Some, None, Result, Ok, Err, IfOk, map, All, refl, sym, ap, subst, ◌∙◌, arith, vec_len}
 use Rattle.std.specs.Prelude.{ℤ, IfSome, slice_get, slice_index_or}
 use Rattle.std.specs.List.{AllZip}
 use Rattle.std.specs.declared.alloc.Global.{Global}
@@ -19,6 +19,8 @@ use Rattle.pex_verify.specs.declared.form.Form.{Form}
 use Rattle.pex_verify.specs.declared.form.Form.TheVariants as form
 use Rattle.pex_verify.specs.declared.form.PlainForm.{PlainForm}
 use Rattle.pex_verify.specs.declared.form.PlainForm.TheVariants as plain
+use Rattle.pex_verify.specs.declared.form.ThreeForm.{ThreeForm}
+use Rattle.pex_verify.specs.declared.form.TwoForm.{TwoForm}
 use Rattle.pex_verify.specs.declared.judged.JudgedFunction.{JudgedFunction}
 use Rattle.pex_verify.specs.declared.judged.JudgedInstruction.{JudgedInstruction}
 use Rattle.pex_verify.specs.declared.judged.JudgedOperand.{JudgedOperand}
@@ -40,6 +42,9 @@ zip_push R [] [] x y h here = (here, tt)
 zip_push R [] (b ∷ ys) x y h here = absurd h
 zip_push R (a ∷ xs) [] x y h here = absurd h
 zip_push R (a ∷ xs) (b ∷ ys) x y h here = (h.0, zip_push R xs ys x y h.1 here)
+
+pub zip_next : {X Y : Type 0} (R : X → Y → Type 0) (xs : List X) (x : X) (ys later : List Y) (y : Y) → later ≡ ys ++ y ∷ [] → AllZip R xs ys → R x y → AllZip R (xs ++ x ∷ []) later
+zip_next R xs x ys later y grown h here = subst (λ zs. AllZip R (xs ++ x ∷ []) zs) (sym grown) (zip_push R xs ys x y h here)
 
 pub zip_same : {X Y Z : Type 0} (R : X → Y → Type 0) (f : X → Z) (g : Y → Z) → ((x : X) (y : Y) → R x y → g y ≡ f x) → (xs : List X) (ys : List Y) → AllZip R xs ys → map g ys ≡ map f xs
 zip_same R f g same [] [] h = refl
@@ -128,20 +133,61 @@ plain_alone outline fixed more plain.JmpT = refl
 plain_alone outline fixed more plain.JmpF = refl
 plain_alone outline fixed more plain.ArrayCreate = refl
 
-pub plain_coded : (outline : List ScriptShape) (i : JudgedInstruction) (kind : PlainForm) (c : LoadedInstruction) → form_at i.opcode ≡ form.Plain kind → coded.instruction_of c ≡ by_plain kind (given [] i.fixed.items [])
-    → ((place : CodePlace) → FitsPlain place kind i.fixed.items i.jump → IsCoded place c) → CodesInstruction outline i c
-plain_coded outline i kind c is means sound = record {
-  means = means ∙ plain_alone outline i.fixed.items i.more.items kind ∙ ap (λ (f : Form). by_form f (given outline i.fixed.items i.more.items)) (sym is);
-  sound = λ bounds slots count place s. sound (record { scripts = bounds.scripts; count = count; place = place }) (plain_fits bounds slots count place i kind is s);
+pub plain_coded : (outline : List ScriptShape) (i : JudgedInstruction) (kind : PlainForm) (c : LoadedInstruction) (operands : List JudgedOperand) → operands ≡ i.fixed.items → form_at i.opcode ≡ form.Plain kind
+    → coded.instruction_of c ≡ by_plain kind (given [] operands []) → ((place : CodePlace) → FitsPlain place kind operands i.jump → IsCoded place c) → CodesInstruction outline i c
+plain_coded outline i kind c operands same is means sound = record {
+  means =
+      means
+      ∙ ap (λ (o : List JudgedOperand). by_plain kind (given [] o [])) same
+      ∙ plain_alone outline i.fixed.items i.more.items kind
+      ∙ ap (λ (f : Form). by_form f (given outline i.fixed.items i.more.items)) (sym is);
+  sound = λ bounds slots count place s.
+      let here : CodePlace = record { scripts = bounds.scripts; count = count; place = place } in
+      sound here (subst (λ (o : List JudgedOperand). FitsPlain here kind o i.jump) (sym same) (plain_fits bounds slots count place i kind is s));
 }
 
 -- one that looks something up
-pub form_coded : (outline : List ScriptShape) (i : JudgedInstruction) (kind : Form) (c : LoadedInstruction) → form_at i.opcode ≡ kind → coded.instruction_of c ≡ by_form kind (given outline i.fixed.items i.more.items)
-    → ((place : CodePlace) → IfSome i.function (λ f. f.script < place.scripts) → IsCoded place c) → CodesInstruction outline i c
-form_coded outline i kind c is means sound = record {
-  means = means ∙ ap (λ (f : Form). by_form f (given outline i.fixed.items i.more.items)) (sym is);
+form_coded : (outline : List ScriptShape) (i : JudgedInstruction) (kind : Form) (c : LoadedInstruction) (operands : List JudgedOperand) → operands ≡ i.fixed.items → form_at i.opcode ≡ kind
+    → coded.instruction_of c ≡ by_form kind (given outline operands i.more.items) → ((place : CodePlace) → IfSome i.function (λ f. f.script < place.scripts) → IsCoded place c) → CodesInstruction outline i c
+form_coded outline i kind c operands same is means sound = record {
+  means =
+      means
+      ∙ ap (λ (o : List JudgedOperand). by_form kind (given outline o i.more.items)) same
+      ∙ ap (λ (f : Form). by_form f (given outline i.fixed.items i.more.items)) (sym is);
   sound = λ bounds slots count place s. sound (record { scripts = bounds.scripts; count = count; place = place }) s.function;
 }
+
+pub static_coded : {E : Type 0} (result : Result LoadedInstruction E) (outline : List ScriptShape) (i : JudgedInstruction) (kind : Form) (operands : List JudgedOperand) → operands ≡ i.fixed.items → form_at i.opcode ≡ kind
+    → IfOk result (λ c. coded.instruction_of c ≡ by_form kind (given outline operands i.more.items)) → IfOk result (λ c. (place : CodePlace) → IfSome i.function (λ f. f.script < place.scripts) → IsCoded place c)
+    → IfOk result (CodesInstruction outline i)
+static_coded (Ok c) outline i kind operands same is means sound =
+    form_coded outline i kind c operands same is means sound
+static_coded (Err e) outline i kind operands same is means sound = tt
+
+pub call_coded : {E : Type 0} (result : Result LoadedInstruction E) (outline : List ScriptShape) (i : JudgedInstruction) (kind : Form) (operands : List JudgedOperand) → operands ≡ i.fixed.items → form_at i.opcode ≡ kind
+    → IfOk result (λ c. coded.instruction_of c ≡ by_form kind (given outline operands i.more.items)) → IfOk result (λ c. (place : CodePlace) → IsCoded place c) → IfOk result (CodesInstruction outline i)
+call_coded (Ok c) outline i kind operands same is means sound =
+    form_coded outline i kind c operands same is means (λ place among. sound place)
+call_coded (Err e) outline i kind operands same is means sound = tt
+
+-- ---- operands that are taken one after the other
+pub taken : (a b : JudgedOperand) (o : Operand) → CodesOperand a o → a ≡ b → CodesOperand b o
+taken a b o codes same = codes ∙ ap judged.operand_of same
+
+pub name_taken : (a b : JudgedOperand) (name : List ℕ) → name ≡ judged.name_of a → a ≡ b → name ≡ judged.name_of b
+name_taken a b name is same = is ∙ ap judged.name_of same
+
+pub two_taken : (kind : TwoForm) (a b x : JudgedOperand) (first second : Operand) → CodesOperand a first → CodesOperand x second → x ≡ b
+    → judged.by_two kind (coded.operand_of first) (coded.operand_of second) ≡ judged.by_two kind (judged.operand_of a) (judged.operand_of b)
+two_taken kind a b x first second one two same =
+    ap (λ o. judged.by_two kind o (coded.operand_of second)) one ∙ ap (λ o. judged.by_two kind (judged.operand_of a) o) (taken x b second two same)
+
+pub three_taken : (kind : ThreeForm) (a b d x y : JudgedOperand) (first second third : Operand) → CodesOperand a first → CodesOperand x second → x ≡ b → CodesOperand y third → y ≡ d
+    → judged.by_three kind (coded.operand_of first) (coded.operand_of second) (coded.operand_of third) ≡ judged.by_three kind (judged.operand_of a) (judged.operand_of b) (judged.operand_of d)
+three_taken kind a b d x y first second third one two same three also =
+    ap (λ o. judged.by_three kind o (coded.operand_of second) (coded.operand_of third)) one
+    ∙ ap (λ o. judged.by_three kind (judged.operand_of a) o (coded.operand_of third)) (taken x b second two same)
+    ∙ ap (λ o. judged.by_three kind (judged.operand_of a) (judged.operand_of b) o) (taken y d third three also)
 
 -- ---- jumps
 abbrev landing_or : Option ℕ → ℕ
@@ -169,6 +215,15 @@ leads_lands place operands k landing leads = by (slice_get operands k) landing r
 pub arguments_same : (operands : List JudgedOperand) (arguments : List Operand) → AllZip CodesOperand operands arguments → map coded.operand_of arguments ≡ map judged.operand_of operands
 arguments_same operands arguments zip =
     zip_same CodesOperand judged.operand_of coded.operand_of (λ x y r. r) operands arguments zip
+
+-- what is made of equal parts
+pub same_three : {A B C R : Type 0} (f : A → B → C → R) (a k : A) (b l : B) (c m : C) → a ≡ k → b ≡ l → c ≡ m → f a b c ≡ f k l m
+same_three f a k b l c m one two three =
+    ap (λ x. f x b c) one ∙ ap (λ x. f k x c) two ∙ ap (λ x. f k l x) three
+
+pub same_four : {A B C D R : Type 0} (f : A → B → C → D → R) (a k : A) (b l : B) (c m : C) (d n : D) → a ≡ k → b ≡ l → c ≡ m → d ≡ n → f a b c d ≡ f k l m n
+same_four f a k b l c m d n one two three four =
+    ap (λ x. f x b c d) one ∙ same_three (f k) b l c m d n two three four
 
 code_means : (outline : List ScriptShape) (code : List JudgedInstruction) (loaded : List LoadedInstruction) → AllZip (CodesInstruction outline) code loaded → map coded.instruction_of loaded ≡ map (judged.instruction_of outline) code
 code_means outline code loaded zip =
