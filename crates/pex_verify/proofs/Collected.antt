@@ -17,19 +17,19 @@ use Rattle.papy_base.proofs.Lists.{In, Differ}
 use Rattle.pex_set.proofs.NearestLemmas.{nearest_in}
 use Rattle.pex_values.specs.declared.values.PexObject.{PexObject}
 use Rattle.pex_values.specs.declared.values.PexState.{PexState}
-use Rattle.pex_verify.specs.declared.loaded.LoadedScript.{LoadedScript}
+use Rattle.pex_verify.specs.declared.judged.JudgedScript.{JudgedScript}
 use Rattle.pex_verify.specs.declared.scripts.PropertySignature.{PropertySignature}
 use Rattle.pex_verify.specs.declared.scripts.ScriptHead.{ScriptHead}
 use Rattle.pex_verify.specs.declared.sources.SetFile.{SetFile}
 use Rattle.pex_verify.specs.Found.{rank_of}
 use Rattle.pex_verify.specs.Heads.{Placed, Members, IsHeadOf, parent_at}
 use Rattle.pex_verify.specs.Loading.{IsWholeObject}
-use Rattle.pex_verify.specs.Plain.{outline_of, script_of}
+use Rattle.pex_verify.specs.JudgedCode.{outline_of, script_of}
 use Rattle.pex_verify.specs.Rules.{AreDistinct}
-use Rattle.pex_verify.specs.Sets.{LoadedSet}
+use Rattle.pex_verify.specs.Sets.{JudgedSet}
 use Rattle.pex_verify.specs.Signatures.{number_at}
 use Rattle.pex_verify.specs.Tables.{no_members}
-use Rattle.pex_verify.specs.Whole.{IsWholeSet}
+use Rattle.pex_verify.specs.Whole.{IsJudgedSet}
 use Rattle.pex_verify.proofs.Collecting.{joined, joined_at, joined_past, all_ranked, methods_of, properties_in, collected_methods, collected_properties}
 use Rattle.pex_verify.proofs.Context.{tables, parents, objects, heads, members, views, views_of, views_of_object, property_heads, collected_members}
 use Rattle.pex_verify.proofs.Facts.{scripts_count, outline_count, heads_count, parents_count, object_is, head_is, no_parent, parents_among}
@@ -82,12 +82,12 @@ heads_past (h ∷ heads) zero past = absurd (omega arith)
 heads_past (h ∷ heads) (suc k) past = heads_past heads k (omega arith)
 
 -- ---- a set
-module _ {set : LoadedSet} (whole : IsWholeSet set) where
+module _ {set : JudgedSet} (whole : IsJudgedSet set) where
   -- a script of the set
   pub record IsScriptAt (script : ℕ) : Type 0 where
     pub o : Placed
     pub head : ScriptHead
-    pub loaded : LoadedScript
+    pub loaded : JudgedScript
     pub outline : OutlineScript
     pub is_head : IsHeadOf (members whole) (parent_at (parents whole) script) o.source.names.now o.object head
     pub is_object : IsWholeObject (record { set = tables whole; members = whole.judged.members }) script o loaded outline

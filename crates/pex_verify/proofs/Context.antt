@@ -9,10 +9,10 @@ use Rattle.pex_verify.specs.declared.scripts.PropertySignature.{PropertySignatur
 use Rattle.pex_verify.specs.declared.scripts.ScriptHead.{ScriptHead}
 use Rattle.pex_verify.specs.declared.scripts.SetHeads.{SetHeads}
 use Rattle.pex_verify.specs.Heads.{Placed, placed_objects, Members, members_of, member_at}
-use Rattle.pex_verify.specs.Sets.{LoadedSet}
+use Rattle.pex_verify.specs.Sets.{JudgedSet}
 use Rattle.pex_verify.specs.Signatures.{Declared, declared_by, number_at}
 use Rattle.pex_verify.specs.Tables.{all_members}
-use Rattle.pex_verify.specs.Whole.{IsWholeSet}
+use Rattle.pex_verify.specs.Whole.{IsJudgedSet}
 use Rattle.pex_verify.proofs.Views.{StateView}
 
 -- ---- the states of an object by numbers
@@ -42,7 +42,7 @@ views_of members (o ∷ objects) (head ∷ heads) =
 views_of members _ _ = []
 
 -- ---- a set
-module _ {set : LoadedSet} (whole : IsWholeSet set) where
+module _ {set : JudgedSet} (whole : IsJudgedSet set) where
   abbrev pub tables : SetHeads
   tables = whole.judged.loaded.set
 

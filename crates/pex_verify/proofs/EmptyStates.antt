@@ -16,11 +16,11 @@ use Rattle.papy_base.specs.declared.name.Name.{Name}
 use Rattle.pex_set.specs.Names.{number_in}
 use Rattle.pex_values.specs.declared.values.PexState.{PexState}
 use Rattle.code_meaning.specs.LookUp.{numbered, one_on}
-use Rattle.pex_verify.specs.declared.loaded.LoadedFunction.{LoadedFunction}
+use Rattle.pex_verify.specs.declared.judged.JudgedFunction.{JudgedFunction}
 use Rattle.pex_verify.specs.Heads.{Members, functions_of_state}
 use Rattle.pex_verify.specs.Meanings.{Meanings}
 use Rattle.pex_verify.specs.Outlining.{functions_without_state}
-use Rattle.pex_verify.specs.Plain.{function_of}
+use Rattle.pex_verify.specs.JudgedCode.{function_of}
 use Rattle.pex_verify.specs.Signatures.{Declared, declared_by, number_at}
 use Rattle.pex_verify.proofs.Context.{lacking_declared, state_view, added_view}
 use Rattle.pex_verify.proofs.LookUps.{same_test}
@@ -77,10 +77,10 @@ map_some f None y e = absurd (none-some y e)
 map_some f (Some x) y e = (x, refl, same_Some (f x) y e)
 
 module _ (types : Meanings) (names : List (List ℕ)) (outline : List ScriptShape) (empty : number_in names [] ≡ Some 0) where
-  abbrev AreDeclared : List Declared → List LoadedFunction → Type 0
+  abbrev AreDeclared : List Declared → List JudgedFunction → Type 0
   AreDeclared declared loaded = AllZip (Declares types names) declared (map (function_of outline) loaded)
 
-  first_by : (v : StateView) (views : List StateView) (state : Name × Vec LoadedFunction Global) (states : List (Name × Vec LoadedFunction Global)) (i : ℕ) (view : StateView) (b : Bool)
+  first_by : (v : StateView) (views : List StateView) (state : Name × Vec JudgedFunction Global) (states : List (Name × Vec JudgedFunction Global)) (i : ℕ) (view : StateView) (b : Bool)
       → IsViewed types names v (plain_state outline state)
       → ((j : ℕ) → numbered is_empty views ≡ Some (j, view) → AreDeclared view.functions (functions_without_state states))
       → (if b then Some (0, v) else one_on (numbered is_empty views)) ≡ Some (i, view)
@@ -91,7 +91,7 @@ module _ (types : Meanings) (names : List (List ℕ)) (outline : List ScriptShap
       let o = one_on_some (numbered is_empty views) i view e in rec o.0 o.1
 
   -- the functions of the first empty state are those of the first state whose name has no bytes
-  pub first_declared : (views : List StateView) (states : List (Name × Vec LoadedFunction Global)) (i : ℕ) (view : StateView)
+  pub first_declared : (views : List StateView) (states : List (Name × Vec JudgedFunction Global)) (i : ℕ) (view : StateView)
       → AllZip (IsViewed types names) views (map (plain_state outline) states) → numbered is_empty views ≡ Some (i, view) → AreDeclared view.functions (functions_without_state states)
   first_declared [] states i view h e = absurd (none-some (i, view) e)
   first_declared (v ∷ views) [] i view h e = absurd h
@@ -100,12 +100,12 @@ module _ (types : Meanings) (names : List (List ℕ)) (outline : List ScriptShap
       rw same (first_by v views state states i view (v.name == 0) h.0 (λ j. first_declared views states j view h.1) e)
 
   -- what is found in the first empty state is what was loaded at its place
-  pub record IsLoadedAt (states : List (Name × Vec LoadedFunction Global)) (own : OwnFound) : Type 0 where
-    pub loaded : LoadedFunction
+  pub record IsLoadedAt (states : List (Name × Vec JudgedFunction Global)) (own : OwnFound) : Type 0 where
+    pub loaded : JudgedFunction
     pub stands : slice_get (functions_without_state states) own.number ≡ Some loaded
     pub declares : Declares types names own.declared (function_of outline loaded)
 
-  pub loaded_at : (views : List StateView) (states : List (Name × Vec LoadedFunction Global)) (own : OwnFound)
+  pub loaded_at : (views : List StateView) (states : List (Name × Vec JudgedFunction Global)) (own : OwnFound)
       → AllZip (IsViewed types names) views (map (plain_state outline) states) → IsInFirst views own → IsLoadedAt states own
   loaded_at views states own h f =
       let functions = functions_without_state states in

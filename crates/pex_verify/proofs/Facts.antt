@@ -14,18 +14,18 @@ use Rattle.pex_set.specs.Names.{empty_name, number_in}
 use Rattle.pex_set.specs.Objects.{first_named, parent_in as parent_of_head}
 use Rattle.pex_set.specs.declared.objects.Head.{Head}
 use Rattle.pex_set.proofs.ObjectLemmas.{AreAmong-parents_in}
-use Rattle.pex_verify.specs.declared.loaded.LoadedScript.{LoadedScript}
+use Rattle.pex_verify.specs.declared.judged.JudgedScript.{JudgedScript}
 use Rattle.pex_verify.specs.declared.scripts.ScriptHead.{ScriptHead}
 use Rattle.pex_verify.specs.declared.scripts.SetHeads.{SetHeads}
 use Rattle.pex_verify.specs.declared.sources.SetFile.{SetFile}
 use Rattle.pex_verify.specs.Heads.{Placed, placed, placed_in, placed_objects, IsHeadOf, parent_at}
 use Rattle.pex_verify.specs.Loading.{IsWholeObject}
 use Rattle.pex_verify.specs.Parents.{parent_among, parent_in as parent_in_heads}
-use Rattle.pex_verify.specs.Plain.{outline_of, script_of, scripts_of}
-use Rattle.pex_verify.specs.Sets.{LoadedSet}
+use Rattle.pex_verify.specs.JudgedCode.{outline_of, script_of, scripts_of}
+use Rattle.pex_verify.specs.Sets.{JudgedSet}
 use Rattle.pex_verify.specs.Signatures.{number_at, title_at}
 use Rattle.pex_verify.specs.Sources.{HaveParts, IsNamed}
-use Rattle.pex_verify.specs.Whole.{IsWholeSet}
+use Rattle.pex_verify.specs.Whole.{IsJudgedSet}
 use Rattle.pex_verify.proofs.Context.{tables, parents, objects, heads, members}
 use Rattle.pex_verify.proofs.Upward.{rooted_from_objects}
 
@@ -81,7 +81,7 @@ parent_of_item : {X : Type 0} (f : X → Option ℕ) (xs : List X) (place : ℕ)
 parent_of_item f xs place x e =
     ap (option_and_then (λ parent. parent)) (slice_get-map f xs place ∙ ap (option_map f) e)
 
-module _ {set : LoadedSet} (whole : IsWholeSet set) where
+module _ {set : JudgedSet} (whole : IsJudgedSet set) where
   -- ---- as many of each
   pub scripts_count : length (scripts_of set) ≡ length (objects whole)
   scripts_count = length-map set.scripts (script_of (outline_of set)) ∙ sym whole.judged.loaded.objects.script_count
@@ -97,7 +97,7 @@ module _ {set : LoadedSet} (whole : IsWholeSet set) where
       length-map (tables whole).objects (parent_of_head (tables whole).objects) ∙ sym whole.judged.loaded.numbered.count
 
   -- ---- of each number
-  pub object_is : (n : ℕ) (o : Placed) (s : LoadedScript) (l : OutlineScript) → n < length (objects whole)
+  pub object_is : (n : ℕ) (o : Placed) (s : JudgedScript) (l : OutlineScript) → n < length (objects whole)
       → IsWholeObject (record { set = tables whole; members = whole.judged.members }) n (slice_index_or (objects whole) n o) (slice_index_or set.scripts n s) (slice_index_or set.outline n l)
   object_is n o s l within = whole.judged.loaded.objects.each n o s l within
 

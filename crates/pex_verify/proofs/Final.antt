@@ -20,24 +20,24 @@ use Rattle.papy_base.specs.Lineage as objects_above
 use Rattle.pex_values.specs.declared.values.PexFunction.{PexFunction}
 use Rattle.pex_values.specs.declared.values.PexProperty.{PexProperty}
 use Rattle.pex_values.specs.declared.values.PexState.{PexState}
-use Rattle.pex_verify.specs.declared.loaded.LoadedFunction.{LoadedFunction}
-use Rattle.pex_verify.specs.declared.loaded.LoadedProperty.{LoadedProperty}
-use Rattle.pex_verify.specs.declared.loaded.LoadedScript.{LoadedScript}
+use Rattle.pex_verify.specs.declared.judged.JudgedFunction.{JudgedFunction}
+use Rattle.pex_verify.specs.declared.judged.JudgedProperty.{JudgedProperty}
+use Rattle.pex_verify.specs.declared.judged.JudgedScript.{JudgedScript}
 use Rattle.pex_verify.specs.declared.scope.Home.{Home}
 use Rattle.pex_verify.specs.declared.scripts.SetHeads.{SetHeads}
 use Rattle.pex_verify.specs.declared.sources.DefaultMembers.{DefaultMembers}
 use Rattle.pex_verify.specs.Agreement.{Agrees}
 use Rattle.pex_verify.specs.Loading.{AreProperties}
 use Rattle.pex_verify.specs.Matching.{Written, IsWritten}
-use Rattle.pex_verify.specs.Plain.{outline_of, scripts_of, function_of, function_where, property_of, access_of, script_of as plain_script_of}
+use Rattle.pex_verify.specs.JudgedCode.{outline_of, scripts_of, function_of, function_where, property_of, access_of, script_of as plain_script_of}
 use Rattle.pex_verify.specs.Properties.{AreAccessors, IsProperty, Reads, Writes}
-use Rattle.pex_verify.specs.Sets.{LoadedSet}
+use Rattle.pex_verify.specs.Sets.{JudgedSet}
 use Rattle.pex_verify.specs.Signatures.{number_at}
 use Rattle.pex_verify.specs.Sites.{site_of, AreNumberedIn, FinalAt}
 use Rattle.pex_verify.specs.Sources.{IsNamed}
 use Rattle.pex_verify.specs.States.{WrittenState, IsState, AreStates, own_written, written_member, member_written, member_in, lacking_written, lacking_places, is_empty_state, state_functions, state_written, added_state, states_written}
 use Rattle.pex_verify.specs.Types.{IsTypeAmong}
-use Rattle.pex_verify.specs.Whole.{IsWholeSet}
+use Rattle.pex_verify.specs.Whole.{IsJudgedSet}
 use Rattle.pex_verify.proofs.Context.{tables, parents, objects}
 use Rattle.pex_verify.proofs.Facts.{outline_count, parents_count, object_is, source_named, title_number, outline_parent, item_at}
 use Rattle.pex_verify.proofs.Relatives.{heads_length}
@@ -57,7 +57,7 @@ made_at f xs place y e = by (slice_get xs place) refl (sym (slice_get-map f xs p
     by None at found = absurd (none-some y found)
     by (Some x) at found = record { item = x; stands = at; is = same_Some (f x) y found }
 
-abbrev plain_state_of : List ScriptShape → Name × Vec LoadedFunction Global → State
+abbrev plain_state_of : List ScriptShape → Name × Vec JudgedFunction Global → State
 plain_state_of outline state = record { name = state.0; functions = map (function_of outline) state.1.items }
 
 -- ---- the strings of functions have their numbers
@@ -103,33 +103,33 @@ module _ (names : List (List ℕ)) (home : Home) (own : AreNumberedIn names home
       (behind_numbered (list_any (is_empty_state home) states))
 
 -- ---- accessors
-accessor_written : (home : Home) (name : ℕ) (HasForm : PexFunction → Type 0) (function : Option PexFunction) (loaded : LoadedFunction) → AreAccessors home name HasForm function (Some loaded)
+accessor_written : (home : Home) (name : ℕ) (HasForm : PexFunction → Type 0) (function : Option PexFunction) (loaded : JudgedFunction) → AreAccessors home name HasForm function (Some loaded)
     → (written : PexFunction) × IsWritten (site_of home) (own_written home (name, written)) loaded
 accessor_written home name HasForm None loaded are = absurd are
 accessor_written home name HasForm (Some function) loaded are = (function, are.0.written)
 
-function_made : (outline : List ScriptShape) (loaded : Option LoadedFunction) (function : Function) → function_where outline loaded ≡ Some function
-    → (found : LoadedFunction) × (loaded ≡ Some found) × (function_of outline found ≡ function)
+function_made : (outline : List ScriptShape) (loaded : Option JudgedFunction) (function : Function) → function_where outline loaded ≡ Some function
+    → (found : JudgedFunction) × (loaded ≡ Some found) × (function_of outline found ≡ function)
 function_made outline None function e = absurd (none-some function e)
 function_made outline (Some loaded) function e = (loaded, refl, same_Some (function_of outline loaded) function e)
 
-reader_made : (outline : List ScriptShape) (property : LoadedProperty) (variable : Option ℕ) (function : Function) → reader_in (access_of outline property variable) ≡ Some function
+reader_made : (outline : List ScriptShape) (property : JudgedProperty) (variable : Option ℕ) (function : Function) → reader_in (access_of outline property variable) ≡ Some function
     → function_where outline property.read ≡ Some function
 reader_made outline property None function e = e
 reader_made outline property (Some variable) function e = absurd (none-some function e)
 
-writer_made : (outline : List ScriptShape) (property : LoadedProperty) (variable : Option ℕ) (function : Function) → writer_in (access_of outline property variable) ≡ Some function
+writer_made : (outline : List ScriptShape) (property : JudgedProperty) (variable : Option ℕ) (function : Function) → writer_in (access_of outline property variable) ≡ Some function
     → function_where outline property.write ≡ Some function
 writer_made outline property None function e = e
 writer_made outline property (Some variable) function e = absurd (none-some function e)
 
 -- ---- a set
-module _ {set : LoadedSet} (whole : IsWholeSet set) where
+module _ {set : JudgedSet} (whole : IsJudgedSet set) where
   abbrev outline : List ScriptShape
   outline = outline_of set
 
   -- what is known of the script of this number
-  record IsLoadedAt (n : ℕ) (script : LoadedScript) : Type 0 where
+  record IsLoadedAt (n : ℕ) (script : JudgedScript) : Type 0 where
     pub home : Home
     pub set_is : home.set.now ≡ tables whole
     pub number : home.here ≡ n
@@ -141,7 +141,7 @@ module _ {set : LoadedSet} (whole : IsWholeSet set) where
     pub variables : map (λ variable. variable.kind) home.variables.now.list.items ≡ variable_kinds (slice_get outline n)
     pub variables_among : All (λ variable. IsTypeAmong (vec_len (tables whole).heads) variable.kind) home.variables.now.list.items
 
-  loaded_at : (n : ℕ) (script : LoadedScript) → slice_get set.scripts n ≡ Some script → IsLoadedAt n script
+  loaded_at : (n : ℕ) (script : JudgedScript) → slice_get set.scripts n ≡ Some script → IsLoadedAt n script
   loaded_at n script stands =
       let within : n < length set.scripts = slice_get_within set.scripts n script stands in
       let is_object : n < length (objects whole) = omega (arith, whole.judged.loaded.objects.script_count, within) in
@@ -156,8 +156,8 @@ module _ {set : LoadedSet} (whole : IsWholeSet set) where
         home = is.object.home;
         set_is = is.object.set;
         number = is.object.number;
-        properties = subst (λ (s : LoadedScript). AreProperties is.object.home s.properties.items) script_is loaded.properties;
-        states = subst (λ (s : LoadedScript). AreStates (site_of is.object.home) (states_written is.object.home is.object.home.object.now.states.items) s.states.items) script_is loaded.states;
+        properties = subst (λ (s : JudgedScript). AreProperties is.object.home s.properties.items) script_is loaded.properties;
+        states = subst (λ (s : JudgedScript). AreStates (site_of is.object.home) (states_written is.object.home is.object.home.object.now.states.items) s.states.items) script_is loaded.states;
         own = title_number whole is.object.home.source.now (subst (IsNamed whole.judged.names) (sym is.object.source) (source_named whole n o.item is_object));
         members = title_number whole is.object.home.members.now.source.now (subst (λ (m : DefaultMembers). IsNamed whole.judged.names m.source.now) (sym is.object.members) whole.judged.members_named);
         within = omega (arith, heads_length whole, is_object);
@@ -171,7 +171,7 @@ module _ {set : LoadedSet} (whole : IsWholeSet set) where
     IsTypedAt n function =
         AllByRecursion (IsTyped (record { outline = outline; scripts = scripts_of set; script = n; function = function })) function.code
 
-    final : (n : ℕ) (script : LoadedScript) (is : IsLoadedAt n script) (numbers : List ℕ) (titles : List (List ℕ)) → AreNumberedIn whole.judged.names titles numbers → FinalAt (site_of is.home) numbers titles
+    final : (n : ℕ) (script : JudgedScript) (is : IsLoadedAt n script) (numbers : List ℕ) (titles : List (List ℕ)) → AreNumberedIn whole.judged.names titles numbers → FinalAt (site_of is.home) numbers titles
     final n script is numbers titles numbered = record {
       names = whole.judged.names;
       outline = outline;
@@ -184,14 +184,14 @@ module _ {set : LoadedSet} (whole : IsWholeSet set) where
     }
 
     -- the code of what is loaded for a function is typed
-    typed_written : (n : ℕ) (script : LoadedScript) (is : IsLoadedAt n script) (written : Written) (loaded : LoadedFunction) → IsWritten (site_of is.home) written loaded
+    typed_written : (n : ℕ) (script : JudgedScript) (is : IsLoadedAt n script) (written : Written) (loaded : JudgedFunction) → IsWritten (site_of is.home) written loaded
         → AreNumberedIn whole.judged.names written.titles written.numbers → IsTypedAt n (function_of outline loaded)
     unfolding final
     typed_written n script is written loaded are numbered =
         subst (λ here. IsTypedAt here (function_of outline loaded)) is.number (are.typed (final n script is written.numbers written.titles numbered))
 
     -- ---- functions of states
-    typed_in_state : (n : ℕ) (script : LoadedScript) → IsLoadedAt n script → (place k : ℕ) (state : Name × Vec LoadedFunction Global) (loaded : LoadedFunction)
+    typed_in_state : (n : ℕ) (script : JudgedScript) → IsLoadedAt n script → (place k : ℕ) (state : Name × Vec JudgedFunction Global) (loaded : JudgedFunction)
         → slice_get script.states.items place ≡ Some state → slice_get state.1.items k ≡ Some loaded → IsTypedAt n (function_of outline loaded)
     typed_in_state n script is place k state loaded state_stands stands =
         let all = states_written is.home is.home.object.now.states.items in
@@ -207,7 +207,7 @@ module _ {set : LoadedSet} (whole : IsWholeSet set) where
         (states_numbered whole.judged.names is.home is.own is.members is.home.object.now.states.items place none (omega (arith, is.states.count, state_within)) k written.item number_within)
 
     -- ---- functions of properties
-    property_is : (n : ℕ) (script : LoadedScript) (is : IsLoadedAt n script) (k : ℕ) (property : LoadedProperty) → slice_get script.properties.items k ≡ Some property
+    property_is : (n : ℕ) (script : JudgedScript) (is : IsLoadedAt n script) (k : ℕ) (property : JudgedProperty) → slice_get script.properties.items k ≡ Some property
         → (written : PexProperty) × IsProperty is.home k written property
     property_is n script is k property stands =
         let within : k < length script.properties.items = slice_get_within script.properties.items k property stands in
@@ -215,7 +215,7 @@ module _ {set : LoadedSet} (whole : IsWholeSet set) where
         let here = slice_index_or is.home.object.now.properties.items k written.item in
         (here, subst (IsProperty is.home k here) (get_or_from_slice_get script.properties.items k property property stands) (is.properties.each k written.item property within))
 
-    typed_accessor : (n : ℕ) (script : LoadedScript) (is : IsLoadedAt n script) (name : ℕ) (HasForm : PexFunction → Type 0) (function : Option PexFunction) (loaded : Option LoadedFunction) (found : LoadedFunction)
+    typed_accessor : (n : ℕ) (script : JudgedScript) (is : IsLoadedAt n script) (name : ℕ) (HasForm : PexFunction → Type 0) (function : Option PexFunction) (loaded : Option JudgedFunction) (found : JudgedFunction)
         → loaded ≡ Some found → AreAccessors is.home name HasForm function loaded → IsTypedAt n (function_of outline found)
     typed_accessor n script is name HasForm function loaded found e are =
         let written = accessor_written is.home name HasForm function found (subst (AreAccessors is.home name HasForm function) e are) in
@@ -226,35 +226,35 @@ module _ {set : LoadedSet} (whole : IsWholeSet set) where
     typed_of_state script state k function e =
         in_script (slice_get set.scripts script) refl (ap (λ o. slice_get (functions_in (slice_get (states_in o) state)) k) (sym (slice_get-map (plain_script_of outline) set.scripts script)) ∙ e)
       where
-        in_state : (s : LoadedScript) → slice_get set.scripts script ≡ Some s → (o : Option (Name × Vec LoadedFunction Global)) → slice_get s.states.items state ≡ o
+        in_state : (s : JudgedScript) → slice_get set.scripts script ≡ Some s → (o : Option (Name × Vec JudgedFunction Global)) → slice_get s.states.items state ≡ o
             → slice_get (functions_in (option_map (plain_state_of outline) o)) k ≡ Some function → IsTypedAt script function
         in_state s at None stands found = absurd (none-some function found)
         in_state s at (Some t) stands found =
             let made = made_at (function_of outline) t.1.items k function found in
             subst (IsTypedAt script) made.is (typed_in_state script s (loaded_at script s at) state k t made.item stands made.stands)
 
-        in_script : (o : Option LoadedScript) → slice_get set.scripts script ≡ o
+        in_script : (o : Option JudgedScript) → slice_get set.scripts script ≡ o
             → slice_get (functions_in (slice_get (states_in (option_map (plain_script_of outline) o)) state)) k ≡ Some function → IsTypedAt script function
         in_script None at found = absurd (none-some function found)
         in_script (Some s) at found =
             in_state s at (slice_get s.states.items state) refl (ap (λ o. slice_get (functions_in o) k) (sym (slice_get-map (plain_state_of outline) s.states.items state)) ∙ found)
 
     -- one of the two functions that a property may have
-    typed_of_property : (pick : Access → Option Function) (picked : LoadedProperty → Option LoadedFunction)
-        → ((property : LoadedProperty) (function : Function) → pick (access_of outline property property.variable) ≡ Some function → function_where outline (picked property) ≡ Some function)
-        → ((n : ℕ) (script : LoadedScript) → IsLoadedAt n script → (k : ℕ) (property : LoadedProperty) (loaded : LoadedFunction) → slice_get script.properties.items k ≡ Some property → picked property ≡ Some loaded → IsTypedAt n (function_of outline loaded))
+    typed_of_property : (pick : Access → Option Function) (picked : JudgedProperty → Option JudgedFunction)
+        → ((property : JudgedProperty) (function : Function) → pick (access_of outline property property.variable) ≡ Some function → function_where outline (picked property) ≡ Some function)
+        → ((n : ℕ) (script : JudgedScript) → IsLoadedAt n script → (k : ℕ) (property : JudgedProperty) (loaded : JudgedFunction) → slice_get script.properties.items k ≡ Some property → picked property ≡ Some loaded → IsTypedAt n (function_of outline loaded))
         → (script k : ℕ) (function : Function) → option_and_then (λ (found : Property). pick found.access) (slice_get (properties_in (slice_get (scripts_of set) script)) k) ≡ Some function → IsTypedAt script function
     typed_of_property pick picked made typed script k function e =
         in_script (slice_get set.scripts script) refl (ap (λ o. option_and_then (λ (found : Property). pick found.access) (slice_get (properties_in o) k)) (sym (slice_get-map (plain_script_of outline) set.scripts script)) ∙ e)
       where
-        in_property : (s : LoadedScript) → slice_get set.scripts script ≡ Some s → (o : Option LoadedProperty) → slice_get s.properties.items k ≡ o
+        in_property : (s : JudgedScript) → slice_get set.scripts script ≡ Some s → (o : Option JudgedProperty) → slice_get s.properties.items k ≡ o
             → option_and_then (λ (found : Property). pick found.access) (option_map (property_of outline) o) ≡ Some function → IsTypedAt script function
         in_property s at None stands found = absurd (none-some function found)
         in_property s at (Some p) stands found =
             let loaded = function_made outline (picked p) function (made p function found) in
             subst (IsTypedAt script) loaded.2 (typed script s (loaded_at script s at) k p loaded.0 stands loaded.1)
 
-        in_script : (o : Option LoadedScript) → slice_get set.scripts script ≡ o
+        in_script : (o : Option JudgedScript) → slice_get set.scripts script ≡ o
             → option_and_then (λ (found : Property). pick found.access) (slice_get (properties_in (option_map (plain_script_of outline) o)) k) ≡ Some function → IsTypedAt script function
         in_script None at found = absurd (none-some function found)
         in_script (Some s) at found =

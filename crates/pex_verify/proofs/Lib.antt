@@ -1,4 +1,5 @@
 pub mod ActionTable
+pub mod FormTable
 pub mod Lists
 pub mod Sets
 pub mod LoadedRows
@@ -41,3 +42,7 @@ pub mod PropertyViews
 pub mod PropertyHeads
 pub mod Relatives
 pub mod Final
+pub mod Sizes
+pub mod Named
+pub mod Coding
+pub mod WholeCode

@@ -3,11 +3,11 @@ use Rattle.std.proofs.Common.{◌≡◌, List, [], ◌∷◌, None, refl}
 use Rattle.std.specs.Prelude.{ℕ, codes, pos, negsuc}
 use Rattle.core_tree.specs.declared.value.Value.TheVariants as values
 use Rattle.core_tree.specs.Outlines.{ScriptShape}
-use Rattle.pex_verify.specs.declared.loaded.Operand.{Operand as Loaded}
-use Rattle.pex_verify.specs.declared.loaded.Operand.TheVariants as loaded
+use Rattle.pex_verify.specs.declared.judged.JudgedOperand.{JudgedOperand as Loaded}
+use Rattle.pex_verify.specs.declared.judged.JudgedOperand.TheVariants as loaded
 use Rattle.code_meaning.specs.Code.{Instruction, Literal, Slot, Variable, Itself, StateText}
 use Rattle.code_meaning.specs.Code as op
-use Rattle.pex_verify.specs.Plain.{instruction_by}
+use Rattle.pex_verify.specs.JudgedCode.{instruction_by}
 
 abbrev named : List ℕ → ScriptShape
 named name =

@@ -19,11 +19,11 @@ use Rattle.pex_verify.specs.declared.sources.SetFile.{SetFile}
 use Rattle.pex_verify.specs.Agreement.{IsOffered}
 use Rattle.pex_verify.specs.Found.{function_at, function_found, parent_of, rank_of}
 use Rattle.pex_verify.specs.Heads.{Placed, Members}
-use Rattle.pex_verify.specs.Plain.{outline_of, scripts_of}
+use Rattle.pex_verify.specs.JudgedCode.{outline_of, scripts_of}
 use Rattle.pex_verify.specs.Rules.{Replaces, ReplacesIn, EachReplaces}
-use Rattle.pex_verify.specs.Sets.{LoadedSet}
+use Rattle.pex_verify.specs.Sets.{JudgedSet}
 use Rattle.pex_verify.specs.Signatures.{Declared, declared_of, declared_by, AreAlike, number_at}
-use Rattle.pex_verify.specs.Whole.{IsWholeSet}
+use Rattle.pex_verify.specs.Whole.{IsJudgedSet}
 use Rattle.pex_verify.proofs.Agreeing.{functions_agree}
 use Rattle.pex_verify.proofs.Collected.{IsScriptAt, script_at, views_past, methods_collected, methods_found}
 use Rattle.pex_verify.proofs.Context.{tables, parents, objects, heads, members, views, views_of_object, state_view, added_view, lacking_declared, collected_members}
@@ -123,7 +123,7 @@ alike_from : (numbers : List ℕ) (function : ℕ × PexFunction) (signature : S
 alike_from numbers function signature declared is alike =
     subst (λ (d : Declared). AreAlike d (declared_of signature)) is (record { answer = sym alike.answer; parameters = sym alike.parameters; bits = sym alike.bits })
 
-module _ {set : LoadedSet} (whole : IsWholeSet set) where
+module _ {set : JudgedSet} (whole : IsJudgedSet set) where
   replaced : (script : ℕ) (at : IsScriptAt whole script) (state : PexState) (i j : ℕ) (function : ℕ × PexFunction) → slice_get at.o.object.states.items i ≡ Some state
       → slice_get state.functions.items j ≡ Some function → ReplacesBy (number_at at.o.source.names.now state.name == 0) (tables whole) script at.o.source.names.now function
   replaced script at state i j function s f =

@@ -18,8 +18,8 @@ use Rattle.pex_set.specs.declared.inherited.MemberPlace.{MemberPlace}
 use Rattle.pex_values.specs.declared.values.Pex.{Pex}
 use Rattle.pex_values.specs.declared.values.PexObject.{PexObject}
 use Rattle.pex_values.specs.declared.values.PexProperty.{PexProperty}
-use Rattle.pex_verify.specs.declared.loaded.LoadedProperty.{LoadedProperty}
-use Rattle.pex_verify.specs.declared.loaded.LoadedScript.{LoadedScript}
+use Rattle.pex_verify.specs.declared.judged.JudgedProperty.{JudgedProperty}
+use Rattle.pex_verify.specs.declared.judged.JudgedScript.{JudgedScript}
 use Rattle.pex_verify.specs.declared.scope.Home.{Home}
 use Rattle.pex_verify.specs.declared.scripts.PropertySignature.{PropertySignature}
 use Rattle.pex_verify.specs.declared.scripts.ScriptHead.{ScriptHead}
@@ -30,13 +30,13 @@ use Rattle.pex_verify.specs.Found.{rank_of, property_at, property_found, parent_
 use Rattle.pex_verify.specs.Heads.{Placed, IsHeadOf, parent_at, property_by}
 use Rattle.pex_verify.specs.Loading.{AreProperties, IsObjectOf, IsWholeObject, Judged}
 use Rattle.pex_verify.specs.Pairs.{Paired}
-use Rattle.pex_verify.specs.Plain.{outline_of, scripts_of, property_of, script_of}
+use Rattle.pex_verify.specs.JudgedCode.{outline_of, scripts_of, property_of, script_of}
 use Rattle.pex_verify.specs.Properties.{IsProperty}
-use Rattle.pex_verify.specs.Sets.{LoadedSet}
+use Rattle.pex_verify.specs.Sets.{JudgedSet}
 use Rattle.pex_verify.specs.Signatures.{number_at}
 use Rattle.pex_verify.specs.Sources.{HasParts, HaveParts, IsNamed}
 use Rattle.pex_verify.specs.Variables.{variable_type, type_of_variable}
-use Rattle.pex_verify.specs.Whole.{IsWholeSet}
+use Rattle.pex_verify.specs.Whole.{IsJudgedSet}
 use Rattle.pex_verify.proofs.Agreeing.{properties_agree, new_by_table, head_at_map}
 use Rattle.pex_verify.proofs.Collected.{properties_collected, properties_found}
 use Rattle.pex_verify.proofs.Context.{tables, parents, objects, heads, members, property_heads, collected_members}
@@ -52,8 +52,8 @@ item_at (x ∷ xs) (suc k) h = item_at xs k (omega arith)
 
 -- ---- the properties of an object
 module _ (home : Home) (outline : List ScriptShape) (script : ℕ) (outlined : OutlineScript) (stands : slice_get outline script ≡ Some (script_shape outlined)) (variables : AreVariablesOf home outlined) (names : List (List ℕ)) (numbered : AreTitlesNumbered names home.source.now) where
-  viewed_from : (properties : List PexProperty) (loaded : List LoadedProperty)
-      → Paired PexProperty LoadedProperty (λ n p l. (place : ℕ) × IsProperty home place p l) properties loaded
+  viewed_from : (properties : List PexProperty) (loaded : List JudgedProperty)
+      → Paired PexProperty JudgedProperty (λ n p l. (place : ℕ) × IsProperty home place p l) properties loaded
       → All HasParts properties
       → AllZip (IsPropertyViewed home.set.now.types names outline script) (map (property_by home.source.now.names.now) properties) (map (property_of outline) loaded)
   viewed_from [] [] are parts = tt
@@ -66,14 +66,14 @@ module _ (home : Home) (outline : List ScriptShape) (script : ℕ) (outlined : O
       (viewed, viewed_from properties loaded (record { count = omega arith; each = λ k a b h. are.each (suc k) a b (omega arith) }) (All-tail HasParts p properties parts))
 
 -- the properties of an object of this file are viewed
-abbrev AreViewedAt : List ScriptShape → List (List ℕ) → ℕ → LoadedScript → OutlineScript → SetHeads → SetFile → PexObject → Type 0
+abbrev AreViewedAt : List ScriptShape → List (List ℕ) → ℕ → JudgedScript → OutlineScript → SetHeads → SetFile → PexObject → Type 0
 AreViewedAt outline names script loaded outlined t source object =
     map variable_type outlined.variables.items ≡ map (type_of_variable t.types source.names.now) object.variables.items
     → AreTitlesNumbered names source
     → All HasParts object.properties.items
     → AllZip (IsPropertyViewed t.types names outline script) (map (property_by source.names.now) object.properties.items) (map (property_of outline) loaded.properties.items)
 
-viewed_by_home : (outline : List ScriptShape) (names : List (List ℕ)) (script : ℕ) (home : Home) (loaded : LoadedScript) (outlined : OutlineScript)
+viewed_by_home : (outline : List ScriptShape) (names : List (List ℕ)) (script : ℕ) (home : Home) (loaded : JudgedScript) (outlined : OutlineScript)
     → AreProperties home loaded.properties.items → slice_get outline script ≡ Some (script_shape outlined)
     → AreViewedAt outline names script loaded outlined home.set.now home.source.now home.object.now
 viewed_by_home outline names script home loaded outlined are stands variables numbered parts =
@@ -81,7 +81,7 @@ viewed_by_home outline names script home loaded outlined are stands variables nu
     (record { count = are.count; each = λ k a b h. (k, are.each k a b h) })
     parts
 
-viewed_at : (outline : List ScriptShape) (names : List (List ℕ)) (judged : Judged) (script : ℕ) (o : Placed) (loaded : LoadedScript) (outlined : OutlineScript)
+viewed_at : (outline : List ScriptShape) (names : List (List ℕ)) (judged : Judged) (script : ℕ) (o : Placed) (loaded : JudgedScript) (outlined : OutlineScript)
     → IsObjectOf judged script o loaded outlined → slice_get outline script ≡ Some (script_shape outlined)
     → AreViewedAt outline names script loaded outlined judged.set o.source o.object
 viewed_at outline names judged script o loaded outlined is stands =
@@ -96,7 +96,7 @@ AreNewAt t here source object =
     (k : ℕ) (property : PexProperty) → slice_get object.properties.items k ≡ Some property
     → (parent : ℕ) → table_parent t here ≡ Some parent → property_found t parent (number_at source.names.now property.name) ≡ None
 
-new_by_home : (home : Home) (loaded : List LoadedProperty) → AreProperties home loaded → AreNewAt home.set.now home.here home.source.now home.object.now
+new_by_home : (home : Home) (loaded : List JudgedProperty) → AreProperties home loaded → AreNewAt home.set.now home.here home.source.now home.object.now
 new_by_home home loaded are k property e parent above =
     let within = slice_get_within home.object.now.properties.items k property e in
     let count = are.count in
@@ -105,7 +105,7 @@ new_by_home home loaded are k property e parent above =
     let same = get_or_from_slice_get home.object.now.properties.items k property property e in
     subst (λ (p : PexProperty). property_found home.set.now parent (number_at home.source.now.names.now p.name) ≡ None) same (is.new.above parent above)
 
-new_at : (judged : Judged) (script : ℕ) (o : Placed) (loaded : LoadedScript) (outlined : OutlineScript)
+new_at : (judged : Judged) (script : ℕ) (o : Placed) (loaded : JudgedScript) (outlined : OutlineScript)
     → IsObjectOf judged script o loaded outlined → AreNewAt judged.set script o.source o.object
 new_at judged script o loaded outlined is =
     let here = new_by_home is.home loaded.properties.items is.loaded.properties in
@@ -121,7 +121,7 @@ property_behind numbers head None e = absurd (none-some head e)
 property_behind numbers head (Some property) e = (property, refl, same_Some (property_by numbers property) head e)
 
 -- ---- a set
-module _ {set : LoadedSet} (whole : IsWholeSet set) where
+module _ {set : JudgedSet} (whole : IsJudgedSet set) where
   abbrev judged : Judged
   judged = record { set = tables whole; members = whole.judged.members }
 
@@ -129,7 +129,7 @@ module _ {set : LoadedSet} (whole : IsWholeSet set) where
   record Stands (n : ℕ) : Type 0 where
     pub placed : Placed
     pub head : ScriptHead
-    pub loaded : LoadedScript
+    pub loaded : JudgedScript
     pub outlined : OutlineScript
     pub heads_have : slice_get (heads whole) n ≡ Some head
     pub scripts_have : slice_get set.scripts n ≡ Some loaded
@@ -166,7 +166,7 @@ module _ {set : LoadedSet} (whole : IsWholeSet set) where
         heads_have = h.1;
         scripts_have = s.1;
         outline_has = l.1;
-        is_object = subst (λ (x : LoadedScript). IsWholeObject judged n at x l.0) (get_or_from_slice_get set.scripts n s.0 s.0 s.1) with_outline;
+        is_object = subst (λ (x : JudgedScript). IsWholeObject judged n at x l.0) (get_or_from_slice_get set.scripts n s.0 s.0 s.1) with_outline;
         is_head = subst IsHead (get_or_from_slice_get (heads whole) n h.0 h.0 h.1) (head_is whole n o.0 h.0 within);
         named = source_named whole n o.0 within;
         parts = parts_of at.source.pex.now part.0 at.object (source_has_parts whole n o.0 within) part.1;
@@ -178,7 +178,7 @@ module _ {set : LoadedSet} (whole : IsWholeSet set) where
       let of_head = λ (h : ScriptHead). h.properties.items in
       get_or_from_slice_get (property_heads whole) n head.properties.items [] (slice_get-map of_head (heads whole) n ∙ ap (option_map of_head) e)
 
-  properties_by : (n : ℕ) (loaded : LoadedScript) → slice_get set.scripts n ≡ Some loaded → properties_in (slice_get (scripts_of set) n) ≡ map (property_of (outline_of set)) loaded.properties.items
+  properties_by : (n : ℕ) (loaded : JudgedScript) → slice_get set.scripts n ≡ Some loaded → properties_in (slice_get (scripts_of set) n) ≡ map (property_of (outline_of set)) loaded.properties.items
   properties_by n loaded e =
       ap properties_in (slice_get-map (script_of (outline_of set)) set.scripts n ∙ ap (option_map (script_of (outline_of set))) e)
 

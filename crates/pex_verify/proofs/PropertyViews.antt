@@ -18,8 +18,8 @@ use Rattle.pex_set.specs.Names.{number_in}
 use Rattle.pex_values.specs.declared.values.PexFunction.{PexFunction}
 use Rattle.pex_values.specs.declared.values.PexProperty.{PexProperty}
 use Rattle.pex_values.specs.declared.values.PexVariable.{PexVariable}
-use Rattle.pex_verify.specs.declared.loaded.LoadedFunction.{LoadedFunction}
-use Rattle.pex_verify.specs.declared.loaded.LoadedProperty.{LoadedProperty}
+use Rattle.pex_verify.specs.declared.judged.JudgedFunction.{JudgedFunction}
+use Rattle.pex_verify.specs.declared.judged.JudgedProperty.{JudgedProperty}
 use Rattle.pex_verify.specs.declared.scope.Home.{Home}
 use Rattle.pex_verify.specs.declared.sources.SetFile.{SetFile}
 use Rattle.pex_verify.specs.declared.value_type.ValueType.{ValueType}
@@ -27,7 +27,7 @@ use Rattle.pex_verify.specs.declared.value_type.ValueType.TheVariants.{Nothing, 
 use Rattle.pex_verify.specs.Heads.{property_by}
 use Rattle.pex_verify.specs.Matching.{parameter_type}
 use Rattle.pex_verify.specs.Meanings.{Meanings, of_result, result_meaning, value_meaning, where_none_is_none}
-use Rattle.pex_verify.specs.Plain.{access_of, function_of, function_where, property_of}
+use Rattle.pex_verify.specs.JudgedCode.{access_of, function_of, function_where, property_of}
 use Rattle.pex_verify.specs.Properties.{Reads, Writes, IsAccessor, AreAccessors, IsOfKind, IsProperty}
 use Rattle.pex_verify.specs.Signatures.{number_at, title_at, kind_at}
 use Rattle.pex_verify.specs.Sources.{HasParts}
@@ -152,18 +152,18 @@ module _ (home : Home) (outline : List ScriptShape) (name : ℕ) (number : ℕ) 
   abbrev numbers : List ℕ
   numbers = home.source.now.names.now
 
-  not_global_loaded : (function : PexFunction) (loaded : LoadedFunction) → IsAccessor home name function loaded → loaded.is_global ≡ false
+  not_global_loaded : (function : PexFunction) (loaded : JudgedFunction) → IsAccessor home name function loaded → loaded.is_global ≡ false
   not_global_loaded function loaded is =
       is.written.is_global ∙ ap (λ (b : Bool). not b) (eq-eqb (bit_and function.bits 1) 0 (not_global function.bits is.plain))
 
-  reader_by : (function : PexFunction) (loaded : LoadedFunction)
+  reader_by : (function : PexFunction) (loaded : JudgedFunction)
       → IsAccessor home name function loaded → Reads numbers number function → AccessorMeets [] (Some kind) (Some (function_of outline loaded))
   reader_by function loaded is reads =
       let none = is.written.parameters ∙ ap (map (λ (pair : ℕ × ℕ). value_meaning types (kind_at numbers pair))) reads.parameters in
       let answer = is.written.result ∙ ap (result_meaning types) reads.answer ∙ result_by (result_meaning types number) kind means in
       (no_parameters loaded.parameters.items none, result_of_kind loaded.result kind answer, not_global_loaded function loaded is)
 
-  writer_by : (function : PexFunction) (loaded : LoadedFunction)
+  writer_by : (function : PexFunction) (loaded : JudgedFunction)
       → IsAccessor home name function loaded → Writes types numbers number function → AccessorMeets (kind ∷ []) None (Some (function_of outline loaded))
   writer_by function loaded is writes =
       let one = is.written.parameters ∙ kinds_mean types numbers function.parameters.items in
@@ -171,14 +171,14 @@ module _ (home : Home) (outline : List ScriptShape) (name : ℕ) (number : ℕ) 
       let answer = is.written.result ∙ writes.answer in
       (one_parameter loaded.parameters.items kind of_kind, no_result loaded.result answer, not_global_loaded function loaded is)
 
-  reader_meets : (given : Option PexFunction) (loaded : Option LoadedFunction)
+  reader_meets : (given : Option PexFunction) (loaded : Option JudgedFunction)
       → AreAccessors home name (Reads numbers number) given loaded → is_some given ≡ true → AccessorMeets [] (Some kind) (function_where outline loaded)
   reader_meets None None are there = absurd (false≢true there)
   reader_meets None (Some loaded) are there = absurd are
   reader_meets (Some given) None are there = absurd are
   reader_meets (Some given) (Some loaded) are there = reader_by given loaded are.0 are.1
 
-  writer_meets : (given : Option PexFunction) (loaded : Option LoadedFunction)
+  writer_meets : (given : Option PexFunction) (loaded : Option JudgedFunction)
       → AreAccessors home name (Writes types numbers number) given loaded → is_some given ≡ true → AccessorMeets (kind ∷ []) None (function_where outline loaded)
   writer_meets None None are there = absurd (false≢true there)
   writer_meets None (Some loaded) are there = absurd are
@@ -204,7 +204,7 @@ module _ (home : Home) (outline : List ScriptShape) (script : ℕ) (outlined : O
   abbrev type_number : PexProperty → ℕ
   type_number property = number_at own_numbers property.kind
 
-  variable_stands : (property : PexProperty) (loaded : LoadedProperty) (place : ℕ)
+  variable_stands : (property : PexProperty) (loaded : JudgedProperty) (place : ℕ)
       → Of loaded.kind ≡ value_meaning home.set.now.types (type_number property)
       → option_map (λ (v : PexVariable). number_at own_numbers v.kind) (slice_get home.object.now.variables.items place) ≡ Some (type_number property)
       → IsVariable outline script place loaded.kind
@@ -212,7 +212,7 @@ module _ (home : Home) (outline : List ScriptShape) (script : ℕ) (outlined : O
       ap (λ (o : Option ScriptShape). slice_get (variable_kinds o) place) stands
       ∙ variable_is home.set.now.types own_numbers (type_number property) loaded.kind outlined.variables.items home.object.now.variables.items place variables is means
 
-  gets_by : (place : ℕ) (property : PexProperty) (loaded : LoadedProperty)
+  gets_by : (place : ℕ) (property : PexProperty) (loaded : JudgedProperty)
       → IsProperty home place property loaded → HasParts property → not (bit_and property.bits 1 == 0) ≡ true
       → (number : ℕ) (given variable : Option ℕ) → property.variable ≡ given → IsOfKind home property given variable
       → GetMeets outline (Some loaded.kind) (Some (script, number, access_of outline loaded variable))
@@ -226,7 +226,7 @@ module _ (home : Home) (outline : List ScriptShape) (script : ℕ) (outlined : O
       let read = eq-eqb (bit_and loaded.bits 1) 1 (ap (λ (b : ℕ). bit_and b 1) is.bits ∙ is_read_bit property.bits readable) in
       (read, (loaded.kind, refl, variable_stands property loaded variable is.kind h))
 
-  sets_by : (place : ℕ) (property : PexProperty) (loaded : LoadedProperty)
+  sets_by : (place : ℕ) (property : PexProperty) (loaded : JudgedProperty)
       → IsProperty home place property loaded → HasParts property → not (bit_and property.bits 2 == 0) ≡ true
       → (number : ℕ) (given variable : Option ℕ) → property.variable ≡ given → IsOfKind home property given variable
       → SetMeets outline (loaded.kind ∷ []) None (Some (script, number, access_of outline loaded variable))
@@ -242,7 +242,7 @@ module _ (home : Home) (outline : List ScriptShape) (script : ℕ) (outlined : O
 
   -- a loaded property is read and written as its head says
   pub IsPropertyViewed-from_file : (names : List (List ℕ)) → AreTitlesNumbered names home.source.now
-      → (place : ℕ) (property : PexProperty) (loaded : LoadedProperty) → IsProperty home place property loaded → HasParts property
+      → (place : ℕ) (property : PexProperty) (loaded : JudgedProperty) → IsProperty home place property loaded → HasParts property
       → IsPropertyViewed home.set.now.types names outline script (property_by own_numbers property) (property_of outline loaded)
   IsPropertyViewed-from_file names numbered place property loaded is parts = record {
     name = ap (number_in names) is.name ∙ numbered property.name;

@@ -1,10 +1,11 @@
 -- Types, parents and names of a set that was verified are those of its outline.
-use Rattle.std.proofs.Common.{◌≡◌, ℕ, ◌<◌, ◌≤◌, ◌==◌, true, false, nat_le, nat_lt, List, [], ◌∷◌, length, Some, sym, ap, subst, ◌∙◌, ⊎_elim, arith}
+use Rattle.std.proofs.Common.{◌≡◌, ℕ, ◌<◌, ◌≤◌, ◌==◌, true, false, nat_le, nat_lt, List, [], ◌∷◌, length, position, Some, sym, ap, subst, ◌∙◌, ⊎_elim, arith}
 use Rattle.std.specs.Prelude.{vec_len, slice_get, slice_index_or}
 use Rattle.std.specs.List.{AllZip}
 use Rattle.std.specs.Option.{option_and_then}
+use Rattle.std.specs.Str.{str_eq_ignore_ascii_case}
 use Rattle.std.proofs.lemmas.Bool.{and_right, cases_lt, eqb-true, false≢true, le-ltb, or_cases}
-use Rattle.std.proofs.lemmas.List.{get_or-map, get_or_past}
+use Rattle.std.proofs.lemmas.List.{get_or-map, get_or_past, length-map}
 use Rattle.std.proofs.lemmas.List.Quantifiers.{position-Some}
 use Rattle.std.proofs.lemmas.Option.{none-some, slice_get_past}
 use Rattle.core_tree.specs.declared.outline.OutlineScript.{OutlineScript}
@@ -20,15 +21,16 @@ use Rattle.pex_verify.specs.declared.scripts.ScriptHead.{ScriptHead}
 use Rattle.pex_verify.specs.declared.sources.SetFile.{SetFile}
 use Rattle.pex_verify.specs.Agreement.{HaveTypesOf}
 use Rattle.pex_verify.specs.Found.{parent_of}
-use Rattle.pex_verify.specs.Heads.{Placed}
-use Rattle.pex_verify.specs.Plain.{outline_of, script_named, script_or}
-use Rattle.pex_verify.specs.Sets.{LoadedSet}
+use Rattle.pex_verify.specs.Heads.{Placed, AreNumbered}
+use Rattle.pex_verify.specs.JudgedCode.{outline_of, script_named, script_or}
+use Rattle.pex_verify.specs.Naming.{NameScripts}
+use Rattle.pex_verify.specs.Sets.{JudgedSet}
 use Rattle.pex_verify.specs.Signatures.{title_at}
-use Rattle.pex_verify.specs.Whole.{IsWholeSet}
+use Rattle.pex_verify.specs.Whole.{IsJudgedSet}
 use Rattle.pex_verify.proofs.Agreeing.{zip_from_paired}
 use Rattle.pex_verify.proofs.Context.{tables, parents, objects, heads}
 use Rattle.pex_verify.proofs.Facts.{outline_count, heads_count, parents_count, object_is, source_named, title_number, parent_within, parent_by_heads, outline_parent, item_at}
-use Rattle.pex_verify.proofs.Naming.{named_agrees, child_agrees, child_itself, parent_agrees}
+use Rattle.pex_verify.proofs.Naming.{named_agrees, named_exactly, child_agrees, child_itself, parent_agrees}
 
 -- with no ranks for what is no object, nothing stands below it
 no_rank_past : (spans : List Span) (above rank : ℕ) → length spans ≤ above → has (span_at spans above) rank ≡ true → ⊥
@@ -38,7 +40,7 @@ no_rank_past spans above rank past h =
     none : (rank : ℕ) → has no_ranks rank ≡ false
     none rank = and_right (nat_le 0 rank) (nat_lt rank 0) (le-ltb rank 0 (omega arith))
 
-module _ {set : LoadedSet} (whole : IsWholeSet set) where
+module _ {set : JudgedSet} (whole : IsJudgedSet set) where
   pub heads_length : vec_len (tables whole).heads ≡ length (objects whole)
   heads_length = (tables whole).heads.ok.0 ∙ heads_count whole
 
@@ -94,26 +96,36 @@ module _ {set : LoadedSet} (whole : IsWholeSet set) where
       ∙ ap (λ (file : SetFile). title_at file.titles.now is.object.home.object.now.name) is.object.source
       ∙ ap (λ (object : PexObject). title_at (slice_index_or (objects whole) k o).source.titles.now object.name) is.object.object
 
-  shape_named : (k : ℕ) (head : Head) (shape : ScriptShape) → k < length (outline_of set)
-      → number_in whole.judged.names (slice_index_or (outline_of set) k shape).name ≡ Some (slice_index_or (tables whole).objects k head).name
-  shape_named k head shape h =
-      let within : k < length (objects whole) = omega (arith, outline_count whole, h) in
-      let outlined : k < length set.outline = omega (arith, sym whole.judged.loaded.objects.outline_count, within) in
-      let o = item_at (objects whole) k within in
-      let l = item_at set.outline k outlined in
-      let placed = slice_index_or (objects whole) k o.item in
-      let numbered = whole.judged.loaded.numbered.each k o.item head (omega (arith, sym whole.judged.loaded.numbered.count, within)) in
-      ap (λ (s : ScriptShape). number_in whole.judged.names s.name) (get_or-map script_shape set.outline k l.item shape outlined)
-      ∙ ap (number_in whole.judged.names) (shape_title k o.item l.item within)
-      ∙ title_number whole placed.source (source_named whole k o.item within) placed.object.name
-      ∙ ap Some (sym numbered.name)
+  module _ (heads : List Head) (numbered : AreNumbered (objects whole) heads) where
+    shape_named : (k : ℕ) (head : Head) (shape : ScriptShape) → k < length (outline_of set)
+        → number_in whole.judged.names (slice_index_or (outline_of set) k shape).name ≡ Some (slice_index_or heads k head).name
+    shape_named k head shape h =
+        let within : k < length (objects whole) = omega (arith, outline_count whole, h) in
+        let outlined : k < length set.outline = omega (arith, sym whole.judged.loaded.objects.outline_count, within) in
+        let o = item_at (objects whole) k within in
+        let l = item_at set.outline k outlined in
+        let placed = slice_index_or (objects whole) k o.item in
+        let is = numbered.each k o.item head (omega (arith, sym numbered.count, within)) in
+        ap (λ (s : ScriptShape). number_in whole.judged.names s.name) (get_or-map script_shape set.outline k l.item shape outlined)
+        ∙ ap (number_in whole.judged.names) (shape_title k o.item l.item within)
+        ∙ title_number whole placed.source (source_named whole k o.item within) placed.object.name
+        ∙ ap Some (sym is.name)
 
-  shapes_named : AllZip (λ (head : Head) (shape : ScriptShape). number_in whole.judged.names shape.name ≡ Some head.name) (tables whole).objects (outline_of set)
-  shapes_named =
-      zip_from_paired (λ (head : Head) (shape : ScriptShape). number_in whole.judged.names shape.name ≡ Some head.name) (tables whole).objects (outline_of set) (record {
-        count = sym whole.judged.loaded.numbered.count ∙ sym (outline_count whole);
-        each = λ k head shape h. shape_named k head shape h;
-      })
+    shapes_named : AllZip (λ (head : Head) (shape : ScriptShape). number_in whole.judged.names shape.name ≡ Some head.name) heads (outline_of set)
+    shapes_named =
+        zip_from_paired (λ (head : Head) (shape : ScriptShape). number_in whole.judged.names shape.name ≡ Some head.name) heads (outline_of set) (record {
+          count = sym numbered.count ∙ sym (outline_count whole);
+          each = λ k head shape h. shape_named k head shape h;
+        })
+
+    -- scripts are named by the numbers of their objects
+    pub scripts_named : NameScripts whole.judged.names heads set.outline
+    scripts_named = record {
+      each = λ name.
+          ap (λ o. script_or o (length set.outline)) (named_exactly whole.judged.names heads (outline_of set) shapes_named name)
+          ∙ ap (λ n. script_or (position (λ (shape : ScriptShape). str_eq_ignore_ascii_case shape.name name) (outline_of set)) n) (sym (length-map set.outline script_shape));
+      few = omega (arith, whole.sound.scripts.one_each, whole.sound.scripts.numbered);
+    }
 
   first_within : (list : List Head) (number script : ℕ) → first_named list number ≡ Some script → script < length list
   first_within [] number script e = absurd (cc)
@@ -123,5 +135,5 @@ module _ {set : LoadedSet} (whole : IsWholeSet set) where
       → (script < vec_len (tables whole).heads) × (script_named (outline_of set) name ≡ script)
   names_agree number script name named found = (
     omega (arith, first_within (tables whole).objects number script found, whole.judged.loaded.numbered.count, heads_length),
-    ap (λ o. script_or o (length (outline_of set))) (named_agrees whole.judged.names (tables whole).objects (outline_of set) shapes_named number script name named found),
+    ap (λ o. script_or o (length (outline_of set))) (named_agrees whole.judged.names (tables whole).objects (outline_of set) (shapes_named (tables whole).objects whole.judged.loaded.numbered) number script name named found),
   )

@@ -6,14 +6,14 @@ use Rattle.core_tree.specs.declared.core_type.CoreType.{CoreType}
 use Rattle.core_tree.specs.Outlines.{ScriptShape}
 use Rattle.papy_base.specs.declared.name.Name.{Name}
 use Rattle.run_laws.specs.Fits.{variable_kinds}
-use Rattle.pex_verify.specs.declared.loaded.LoadedFunction.{LoadedFunction}
+use Rattle.pex_verify.specs.declared.judged.JudgedFunction.{JudgedFunction}
 use Rattle.pex_verify.specs.declared.scope.FunctionScope.{FunctionScope}
 use Rattle.pex_verify.specs.declared.value_type.ValueType.{ValueType}
 use Rattle.pex_verify.specs.declared.value_type.ValueType.TheVariants.{Of}
 use Rattle.pex_verify.specs.Agreement.{Stands}
 use Rattle.pex_verify.specs.Judged.{AreTypedIn}
 use Rattle.pex_verify.specs.Meanings.{of_result}
-use Rattle.pex_verify.specs.Plain.{function_of}
+use Rattle.pex_verify.specs.JudgedCode.{function_of}
 use Rattle.pex_verify.specs.Sites.{HasTypedCode, site_of}
 use Rattle.pex_verify.specs.Types.{IsTypeAmong, IsValueTypeAmong}
 
@@ -37,7 +37,7 @@ slots_among count parameters locals first rest =
     (All-map (IsValueTypeAmong count) (λ (l : Name × Option CoreType). of_result l.1) locals (λ k d h. local_among count (get_or locals k d).1 (rest k d h)))
 
 -- the function, whose slots have the types of its parameters and locals, in a script whose variables are those of the outline
-pub function_stands : (scope : FunctionScope) (outline : List ScriptShape) (f : LoadedFunction) → scope.home.now.here < vec_len scope.home.now.set.now.heads
+pub function_stands : (scope : FunctionScope) (outline : List ScriptShape) (f : JudgedFunction) → scope.home.now.here < vec_len scope.home.now.set.now.heads
     → scope.slots.now.list.items ≡ map (λ (p : Name × CoreType). Of p.1) f.parameters.items ++ map (λ (l : Name × Option CoreType). of_result l.1) f.locals.items
     → All (λ (p : Name × CoreType). IsTypeAmong (vec_len scope.home.now.set.now.heads) p.1) f.parameters.items
     → All (λ (l : Name × Option CoreType). IfSome l.1 (IsTypeAmong (vec_len scope.home.now.set.now.heads))) f.locals.items
@@ -55,7 +55,7 @@ function_stands scope outline f here slots parameters locals variables variables
 }
 
 -- so its code, which is typed where it is judged, is typed in whichever scripts agree with the tables
-pub code_is_typed : (scope : FunctionScope) (f : LoadedFunction)
+pub code_is_typed : (scope : FunctionScope) (f : JudgedFunction)
     → scope.slots.now.list.items ≡ map (λ (p : Name × CoreType). Of p.1) f.parameters.items ++ map (λ (l : Name × Option CoreType). of_result l.1) f.locals.items
     → All (λ (p : Name × CoreType). IsTypeAmong (vec_len scope.home.now.set.now.heads) p.1) f.parameters.items
     → All (λ (l : Name × Option CoreType). IfSome l.1 (IsTypeAmong (vec_len scope.home.now.set.now.heads))) f.locals.items

@@ -9,7 +9,7 @@ use Rattle.script_meaning.specs.Stacks.{ByMethod, ByParent, ByGlobal, ByGet, ByS
 use Rattle.code_meaning.specs.Code.{Function, Script}
 use Rattle.code_meaning.specs.LookUp.{method_in, first_method}
 use Rattle.run_laws.specs.TypedCode.{Scope, AllGive, Calls, CallsOn, Gives, MethodMeets, Stores}
-use Rattle.pex_verify.specs.declared.loaded.Operand.{Operand}
+use Rattle.pex_verify.specs.declared.judged.JudgedOperand.{JudgedOperand as Operand}
 use Rattle.pex_verify.specs.declared.scope.FunctionScope.{FunctionScope}
 use Rattle.pex_verify.specs.declared.scripts.PropertySignature.{PropertySignature}
 use Rattle.pex_verify.specs.declared.scripts.Signature.{Signature}
@@ -20,7 +20,7 @@ use Rattle.pex_verify.specs.Agreement.{HaveTypesOf, IsOffered, IsPropertyOffered
 use Rattle.pex_verify.specs.Found.{is_global, is_readable, is_writable}
 use Rattle.pex_verify.specs.Judgement.{IsFor, IsSeenIn, Takes, type_by}
 use Rattle.pex_verify.specs.Meanings.{of_result, result_meaning, script_type, value_meaning, where_none_is_none}
-use Rattle.pex_verify.specs.Plain.{operand_of}
+use Rattle.pex_verify.specs.JudgedCode.{operand_of}
 use Rattle.pex_verify.specs.Types.{IsValueTypeAmong}
 use Rattle.pex_verify.proofs.Typing.{gives, gives_own, stores, type_among}
 

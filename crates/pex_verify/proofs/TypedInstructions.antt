@@ -1,6 +1,6 @@
 -- Instructions are typed where they are accepted, by cases on opcodes.
 use Rattle.std.proofs.Common.{◌≡◌, ℕ, zero, suc, ◌<◌, List, [], ◌∷◌, Option, Some, None, length, refl, ap, subst, ◌∙◌, arith, vec_len}
-use Rattle.std.specs.Prelude.{map, slice_get, slice_index_or, unsigned_abs}
+use Rattle.std.specs.Prelude.{map, slice_get, slice_index_or}
 use Rattle.std.proofs.lemmas.Option.{get_or_from_slice_get, slice_get_within}
 use Rattle.core_tree.specs.declared.core_type.CoreType.TheVariants as kinds
 use Rattle.core_tree.specs.Outlines.{ScriptShape}
@@ -15,8 +15,11 @@ use Rattle.pex_verify.specs.declared.action.Action.{Action}
 use Rattle.pex_verify.specs.declared.action.Action.TheVariants as action
 use Rattle.pex_verify.specs.declared.action.Use.{Use}
 use Rattle.pex_verify.specs.declared.action.Use.TheVariants.{Name}
-use Rattle.pex_verify.specs.declared.loaded.Operand.{Operand}
-use Rattle.pex_verify.specs.declared.loaded.Operand.TheVariants as loaded
+use Rattle.pex_verify.specs.declared.form.Form.{Form}
+use Rattle.pex_verify.specs.declared.form.Form.TheVariants as form
+use Rattle.pex_verify.specs.declared.form.PlainForm.TheVariants as plain
+use Rattle.pex_verify.specs.declared.judged.JudgedOperand.{JudgedOperand as Operand}
+use Rattle.pex_verify.specs.declared.judged.JudgedOperand.TheVariants as loaded
 use Rattle.pex_verify.specs.declared.operand_rules.Lookup.{Lookup}
 use Rattle.pex_verify.specs.declared.operand_rules.Lookup.TheVariants.{Unsought, Missing, Function, Property}
 use Rattle.pex_verify.specs.declared.scope.FunctionScope.{FunctionScope}
@@ -27,25 +30,28 @@ use Rattle.pex_verify.specs.Found.{Allows, AreTold, IsSpelled, LooksUp, name_by,
 use Rattle.pex_verify.specs.Judged.{IsJudged, IsJudgedAs}
 use Rattle.pex_verify.specs.Fitting.{FitsIn}
 use Rattle.pex_verify.specs.Judgement.{IsSeenIn, spans_of, type_by}
-use Rattle.pex_verify.specs.Plain.{Operands, forms, instruction_by, name_of, none, number_of, operand_of, script_named}
+use Rattle.pex_verify.specs.JudgedCode.{Operands, by_form, form_table, instruction_by, name_of, number_of, operand_of, script_named, size_of}
 use Rattle.pex_verify.specs.Uses.{action_table, use_at, uses_of}
 use Rattle.pex_verify.proofs.Typing.{gives_result, seen, takes_cast, takes_value}
 use Rattle.pex_verify.proofs.TypedCalls.{calls_method, calls_parent, calls_static, gets_property, object_below, sets_property}
 use Rattle.pex_verify.proofs.TypedValues.{compare, compares, computes, creates, finds, gets_element, measures, own, sets_element, takes_kind}
 
 -- ---- two tables, by place
-abbrev Paired : (Action → (Operands → Typed) → Type 0) → List Action → List (Operands → Typed) → Type 0
+abbrev nothing : Form
+nothing = form.Plain plain.Nop
+
+abbrev Paired : (Action → Form → Type 0) → List Action → List Form → Type 0
 Paired Holds [] [] = Unit {0}
-Paired Holds (a ∷ actions) (form ∷ rest) = Holds a form × Paired Holds actions rest
+Paired Holds (a ∷ actions) (kind ∷ rest) = Holds a kind × Paired Holds actions rest
 Paired Holds _ _ = ⊥
 
-at_place : (Holds : Action → (Operands → Typed) → Type 0) (actions : List Action) (table : List (Operands → Typed)) → Paired Holds actions table → (k : ℕ) (a : Action) → slice_get actions k ≡ Some a → Holds a (slice_index_or table k none)
+at_place : (Holds : Action → Form → Type 0) (actions : List Action) (table : List Form) → Paired Holds actions table → (k : ℕ) (a : Action) → slice_get actions k ≡ Some a → Holds a (slice_index_or table k nothing)
 at_place Holds [] table each k a same = absurd (cc)
 at_place Holds (first ∷ actions) [] each k a same = absurd each
-at_place Holds (first ∷ actions) (form ∷ table) each zero a same =
+at_place Holds (first ∷ actions) (kind ∷ table) each zero a same =
     let e : first ≡ a = cc in
-    subst (λ (b : Action). Holds b form) e each.0
-at_place Holds (first ∷ actions) (form ∷ table) each (suc k) a same = at_place Holds actions table each.1 k a same
+    subst (λ (b : Action). Holds b kind) e each.0
+at_place Holds (first ∷ actions) (kind ∷ table) each (suc k) a same = at_place Holds actions table each.1 k a same
 
 -- ---- operands
 seen_below : (scope : FunctionScope) (operands : List Operand) → ((k : ℕ) (d : Operand) → k < length operands → IsSeenIn scope.is_global (slice_index_or operands k d)) → (k : ℕ) → IsSeenIn scope.is_global (slice_index_or operands k loaded.NoneValue)
@@ -82,8 +88,8 @@ module _ (scope : FunctionScope) (names : List (List ℕ)) (outline : List Scrip
   operands = record { outline = outline; fixed = fixed; more = more }
 
   -- what is to be shown of each row of the two tables
-  abbrev Row : Action → (Operands → Typed) → Type 0
-  Row a form = IsJudgedAs scope a instruction fixed more → IsTyped placed (form operands)
+  abbrev Row : Action → Form → Type 0
+  Row a kind = IsJudgedAs scope a instruction fixed more → IsTyped placed (by_form kind operands)
 
   given_seen : (a : Action) → IsJudgedAs scope a instruction fixed more → (k : ℕ) → IsSeenIn scope.is_global (at fixed k)
   given_seen a j = seen_below scope fixed (each_seen scope (uses_of a) instruction.fixed.items fixed j.told)
@@ -140,7 +146,7 @@ module _ (scope : FunctionScope) (names : List (List ℕ)) (outline : List Scrip
       gives_result scope outline scripts function agrees.types stands (at fixed 0) function.result (given_seen action.Return j 0) (subst (λ (v : ValueType). FitsIn (spans_of scope) (type_by scope (at fixed 0)) v) stands.result j.fit)
 
   -- ---- rows on arrays
-  create : IsJudgedAs scope action.CreateArray instruction fixed more → IsTyped placed (op.ArrayCreate (operand_of (at fixed 0)) (unsigned_abs (number_of (at fixed 1))))
+  create : IsJudgedAs scope action.CreateArray instruction fixed more → IsTyped placed (op.ArrayCreate (operand_of (at fixed 0)) (size_of (number_of (at fixed 1))))
   create j = creates scope outline scripts function agrees.types stands (at fixed 0) (at fixed 1) (given_seen action.CreateArray j 0) j.fit
 
   measure : IsJudgedAs scope action.ArrayLength instruction fixed more → IsTyped placed (op.ArrayLength (operand_of (at fixed 0)) (operand_of (at fixed 1)))
@@ -231,9 +237,9 @@ module _ (scope : FunctionScope) (names : List (List ℕ)) (outline : List Scrip
       sets_property scope outline scripts function agrees.types stands (at fixed 1) (at fixed 2) (name_of (at fixed 0)) f.from property offered allowed f.sought (s 1) fit.1 (s 2)
 
   -- ---- all rows
-  rows : Paired Row action_table forms
+  rows : Paired Row action_table form_table
   rows =
       ((λ j. tt), (arithmetic, ((λ j. tt), (arithmetic, ((λ j. tt), (arithmetic, ((λ j. tt), (arithmetic, ((λ j. tt), (arithmetic, (invert, (negate, ((λ j. tt), (assign, (cast, (equal, (order, (order, (order, (order, ((λ j. tt), (jump_if, (jump_if, ((λ j. call_method j j.found j.sought j.fit j.allowed), ((λ j. call_parent j j.found j.sought j.fit j.allowed), ((λ j. call_static j j.found j.sought j.fit j.allowed), (give_back, (join, ((λ j. get_property j j.found j.sought j.fit j.allowed), ((λ j. set_property j j.found j.sought j.fit j.allowed), (create, (measure, (get_element, (set_element, (find_element, (find_element, tt))))))))))))))))))))))))))))))))))))
 
   pub typed : IsJudged scope instruction fixed more → IsTyped placed (instruction_by instruction.opcode operands)
-  typed j = at_place Row action_table forms rows instruction.opcode j.action j.does j.judged
+  typed j = at_place Row action_table form_table rows instruction.opcode j.action j.does j.judged

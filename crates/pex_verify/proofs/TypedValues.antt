@@ -1,8 +1,7 @@
 -- Instructions that look nothing up are typed where they are accepted.
-use Rattle.std.proofs.Common.{◌≡◌, ℕ, ◌≤◌, true, false, List, Option, Some, None, ℤ, pos, ◌≤ℤ◌, refl, ◌∙◌, ⊎_elim, arith, vec_len}
-use Rattle.std.specs.Prelude.{IsSome, unsigned_abs, slice_get}
+use Rattle.std.proofs.Common.{◌≡◌, ℕ, ◌≤◌, true, false, List, Option, Some, None, refl, ◌∙◌, ⊎_elim, arith, vec_len}
+use Rattle.std.specs.Prelude.{IsSome, slice_get}
 use Rattle.std.specs.Option.{IsSomeAnd}
-use Rattle.std.proofs.lemmas.Int.{ints}
 use Rattle.core_tree.specs.declared.core_type.CoreType.{CoreType}
 use Rattle.core_tree.specs.declared.core_type.CoreType.TheVariants as kinds
 use Rattle.core_tree.specs.Outlines.{ScriptShape}
@@ -10,33 +9,20 @@ use Rattle.core_tree.specs.Values.{element_kind}
 use Rattle.code_meaning.specs.Code.{Function, Script, Slot}
 use Rattle.code_meaning.specs.Operands.{kind_in, type_of, variables_in}
 use Rattle.run_laws.specs.TypedCode.{Scope, Gives, GivesArray, IsPlace, Stores, Compares, Computes as ComputesTyped, Searches}
-use Rattle.pex_verify.specs.declared.loaded.Operand.{Operand}
-use Rattle.pex_verify.specs.declared.loaded.Operand.TheVariants as loaded
+use Rattle.pex_verify.specs.declared.judged.JudgedOperand.{JudgedOperand as Operand}
+use Rattle.pex_verify.specs.declared.judged.JudgedOperand.TheVariants as loaded
 use Rattle.pex_verify.specs.declared.scope.FunctionScope.{FunctionScope}
 use Rattle.pex_verify.specs.declared.value_type.ValueType.{ValueType}
 use Rattle.pex_verify.specs.declared.value_type.ValueType.TheVariants.{Nothing, Float, Unknown, Of}
-use Rattle.pex_verify.specs.Accepted.{Computes, Compare, IsArrayWith, IsSize, Creates, Measures, GetsElement, SetsElement, Finds}
+use Rattle.pex_verify.specs.Accepted.{Computes, Compare, IsArrayWith, Creates, Measures, GetsElement, SetsElement, Finds}
 use Rattle.pex_verify.specs.Agreement.{HaveTypesOf, Stands}
 use Rattle.pex_verify.specs.Fitting.{FitsIn}
 use Rattle.pex_verify.specs.Judgement.{IsFor, IsSeenIn, Takes, spans_of, type_by}
 use Rattle.pex_verify.specs.Meanings.{element_type}
-use Rattle.pex_verify.specs.Plain.{number_of, operand_of}
+use Rattle.pex_verify.specs.JudgedCode.{number_of, operand_of, size_of}
 use Rattle.pex_verify.specs.Types.{IsTypeAmong, IsValueTypeAmong}
+use Rattle.pex_verify.proofs.Sizes.{size_in_range}
 use Rattle.pex_verify.proofs.Typing.{Means, gives, gives_none, gives_own, never_fits, never_float, only_none, slot_means, stores, type_among, variable_is}
-
-few_elements : (number : ℤ) → pos 1 ≤ℤ number → number ≤ℤ pos 128 → unsigned_abs number ≤ 128
-few_elements number least most = omega (arith, ints)
-
-size_is_small : (o : Operand) → IsSize o → unsigned_abs (number_of o) ≤ 128
-size_is_small loaded.NoneValue h = absurd h
-size_is_small (loaded.Word name) h = absurd h
-size_is_small (loaded.Quoted text) h = absurd h
-size_is_small (loaded.Int number) h = few_elements number h.0 h.1
-size_is_small (loaded.Bool truth) h = absurd h
-size_is_small (loaded.Slot number) h = absurd h
-size_is_small (loaded.Variable number) h = absurd h
-size_is_small loaded.Instance h = absurd h
-size_is_small loaded.State h = absurd h
 
 no_array : false ≡ true → ⊥
 no_array h = cc
@@ -122,16 +108,16 @@ module _ (scope : FunctionScope) (outline : List ScriptShape) (scripts : List Sc
   array_gives o holds s h = array_as o (type_by scope o) holds refl (type_among scope outline scripts function types stands o) s h
 
   pub creates : (to size : Operand) → IsSeenIn scope.is_global to → Creates scope to size
-      → (unsigned_abs (number_of size) ≤ 128) × IsPlace placed (operand_of to) × ((kind : CoreType) × (element : CoreType) × (type_of outline scope.home.now.here function (operand_of to) ≡ Some kind) × (element_kind kind ≡ Some element))
+      → (size_of (number_of size) ≤ 128) × IsPlace placed (operand_of to) × ((kind : CoreType) × (element : CoreType) × (type_of outline scope.home.now.here function (operand_of to) ≡ Some kind) × (element_kind kind ≡ Some element))
   creates loaded.NoneValue size s h = absurd (no_array h.0)
   creates (loaded.Word name) size s h = absurd (no_array h.0)
   creates (loaded.Quoted text) size s h = absurd (no_array h.0)
   creates (loaded.Int number) size s h = absurd (no_array h.0)
   creates (loaded.Bool truth) size s h = absurd (no_array h.0)
   creates (loaded.Slot number) size s h =
-      (size_is_small size h.1, tt, array_kind (type_by scope (loaded.Slot number)) (type_of outline scope.home.now.here function (Slot number)) (slot_means scope outline scripts function types stands number) h.0)
+      ((size_in_range size h.1).1, tt, array_kind (type_by scope (loaded.Slot number)) (type_of outline scope.home.now.here function (Slot number)) (slot_means scope outline scripts function types stands number) h.0)
   creates (loaded.Variable number) size s h =
-      (size_is_small size h.1, stands.is_global ∙ s, array_kind (type_by scope (loaded.Variable number)) (kind_in (slice_get (variables_in (slice_get outline scope.home.now.here)) number)) (variable_is scope outline scripts function types stands number) h.0)
+      ((size_in_range size h.1).1, stands.is_global ∙ s, array_kind (type_by scope (loaded.Variable number)) (kind_in (slice_get (variables_in (slice_get outline scope.home.now.here)) number)) (variable_is scope outline scripts function types stands number) h.0)
   creates loaded.Instance size s h = absurd (no_array h.0)
   creates loaded.State size s h = absurd (no_array h.0)
 

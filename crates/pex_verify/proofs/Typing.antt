@@ -13,8 +13,8 @@ use Rattle.core_tree.specs.Values.{element_kind}
 use Rattle.code_meaning.specs.Code.{Function, Script, Slot}
 use Rattle.code_meaning.specs.Operands.{slot_kinds, variables_in, kind_in, type_of}
 use Rattle.run_laws.specs.TypedCode.{Scope, Fits, IsSeen, Gives, GivesResult, Where, Takes as TakesTyped, Stores, Casts}
-use Rattle.pex_verify.specs.declared.loaded.Operand.{Operand}
-use Rattle.pex_verify.specs.declared.loaded.Operand.TheVariants as loaded
+use Rattle.pex_verify.specs.declared.judged.JudgedOperand.{JudgedOperand as Operand}
+use Rattle.pex_verify.specs.declared.judged.JudgedOperand.TheVariants as loaded
 use Rattle.pex_verify.specs.declared.scope.FunctionScope.{FunctionScope}
 use Rattle.pex_verify.specs.declared.value_type.ValueType.{ValueType}
 use Rattle.pex_verify.specs.declared.value_type.ValueType.TheVariants.{Nothing, Float, Unknown, Of}
@@ -22,7 +22,7 @@ use Rattle.pex_verify.specs.Agreement.{HaveTypesOf, Stands}
 use Rattle.pex_verify.specs.Fitting.{FitsIn, CastsIn, Stored}
 use Rattle.pex_verify.specs.Judgement.{IsSeenIn, spans_of, type_by, stored_by, variable_type}
 use Rattle.pex_verify.specs.Meanings.{of_result}
-use Rattle.pex_verify.specs.Plain.{operand_of}
+use Rattle.pex_verify.specs.JudgedCode.{operand_of}
 use Rattle.pex_verify.specs.Types.{IsTypeAmong, IsValueTypeAmong}
 use Rattle.pex_verify.proofs.Fitting.{fits_itself}
 

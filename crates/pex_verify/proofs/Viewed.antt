@@ -12,7 +12,7 @@ use Rattle.run_laws.specs.Fits.{is_native_in}
 use Rattle.script_meaning.specs.Requests.{functions_in, result_in}
 use Rattle.code_meaning.specs.Code.{State, Script}
 use Rattle.code_meaning.specs.LookUp.{states_in}
-use Rattle.pex_verify.specs.declared.loaded.LoadedScript.{LoadedScript}
+use Rattle.pex_verify.specs.declared.judged.JudgedScript.{JudgedScript}
 use Rattle.pex_verify.specs.declared.scope.Home.{Home}
 use Rattle.pex_verify.specs.declared.scripts.ScriptHead.{ScriptHead}
 use Rattle.pex_verify.specs.declared.scripts.SetHeads.{SetHeads}
@@ -22,13 +22,13 @@ use Rattle.pex_verify.specs.Heads.{Placed, Members, members_of, member_at, empty
 use Rattle.pex_verify.specs.Loading.{IsWholeObject, placed_at}
 use Rattle.pex_verify.specs.Meanings.{of_result}
 use Rattle.pex_verify.specs.Outlining.{functions_without_state, loaded_shape}
-use Rattle.pex_verify.specs.Plain.{outline_of, scripts_of, script_of}
-use Rattle.pex_verify.specs.Sets.{LoadedSet}
+use Rattle.pex_verify.specs.JudgedCode.{outline_of, scripts_of, script_of}
+use Rattle.pex_verify.specs.Sets.{JudgedSet}
 use Rattle.pex_verify.specs.Signatures.{declared_of, declared_by}
 use Rattle.pex_verify.specs.Sites.{site_of}
 use Rattle.pex_verify.specs.Sources.{IsNamed}
 use Rattle.pex_verify.specs.States.{lacking_places, states_written}
-use Rattle.pex_verify.specs.Whole.{IsWholeSet}
+use Rattle.pex_verify.specs.Whole.{IsJudgedSet}
 use Rattle.pex_verify.proofs.Context.{tables, parents, objects, heads, members, views, views_of, views_of_object}
 use Rattle.pex_verify.proofs.EmptyStates.{in_first, loaded_at, same_there, first_functions}
 use Rattle.pex_verify.proofs.Facts.{scripts_count, outline_count, heads_count, object_is, head_is, source_named, title_number, rooted_in_outline}
@@ -55,8 +55,8 @@ views_past given (x ∷ placed) [] n h = refl
 views_past given (x ∷ placed) (y ∷ offers) zero h = absurd (omega arith)
 views_past given (x ∷ placed) (y ∷ offers) (suc n) h = views_past given placed offers n (omega arith)
 
-module _ {set : LoadedSet} (whole : IsWholeSet set) where
-  abbrev IsObject : ℕ → Placed → LoadedScript → OutlineScript → Type 0
+module _ {set : JudgedSet} (whole : IsJudgedSet set) where
+  abbrev IsObject : ℕ → Placed → JudgedScript → OutlineScript → Type 0
   IsObject n o s l = IsWholeObject (record { set = tables whole; members = whole.judged.members }) n o s l
 
   abbrev IsHead : ℕ → Placed → ScriptHead → Type 0
@@ -69,7 +69,7 @@ module _ {set : LoadedSet} (whole : IsWholeSet set) where
   pub record IsAt (n : ℕ) : Type 0 where
     pub object : Placed
     pub head : ScriptHead
-    pub script : LoadedScript
+    pub script : JudgedScript
     pub shape : OutlineScript
     pub head_at : slice_get (heads whole) n ≡ Some head
     pub script_at : slice_get set.scripts n ≡ Some script

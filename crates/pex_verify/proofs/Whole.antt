@@ -24,23 +24,29 @@ pub if_given : {T E : Type 0} (P Q : T → Type 0) (result : Result T E) → ((x
 if_given P Q (Ok x) each h = each x h
 if_given P Q (Err e) each h = tt
 
+module _ (names : List (List ℕ)) (members : DefaultMembers) (sources : List SetFile) (prelude : Pex) (files : List Pex)
+    (files_are : map (λ source. source.pex.now) sources ≡ prelude ∷ files)
+    (empty : number_in names [] ≡ Some empty_name) (named : All (IsNamed names) sources) (own : IsNamed names members.source.now) (parts : All (λ source. HaveParts source.pex.now) sources) where
+  abbrev pub judged_as : (t : Tables) → IsLoadedSet members sources t.parts.scripts.items t.parts.outlines.items t.members → IsJudged files t.parts.scripts.items t.parts.outlines.items
+  judged_as t loaded = record {
+    names = names;
+    members = members;
+    sources = sources;
+    table = t.members;
+    empty = empty;
+    named = named;
+    prelude = prelude;
+    files_are = files_are;
+    members_named = own;
+    parts = parts;
+    loaded = loaded;
+  }
+
 -- what is given was judged by the files behind the prelude, if anything is given
 pub judged_given : {E : Type 0} (result : Result Tables E) (names : List (List ℕ)) (members : DefaultMembers) (sources : List SetFile) (prelude : Pex) (files : List Pex)
     → map (λ source. source.pex.now) sources ≡ prelude ∷ files
     → OnOk result (number_in names [] ≡ Some empty_name) → All (IsNamed names) sources → IsNamed names members.source.now → All (λ source. HaveParts source.pex.now) sources
     → IfOk result (λ t. IsLoadedSet members sources t.parts.scripts.items t.parts.outlines.items t.members) → IfOk result (λ t. IsJudged files t.parts.scripts.items t.parts.outlines.items)
 judged_given (Ok t) names members sources prelude files files_are empty named own parts loaded =
-    record {
-      names = names;
-      members = members;
-      sources = sources;
-      table = t.members;
-      empty = empty;
-      named = named;
-      prelude = prelude;
-      files_are = files_are;
-      members_named = own;
-      parts = parts;
-      loaded = loaded;
-    }
+    judged_as names members sources prelude files files_are empty named own parts t loaded
 judged_given (Err e) names members sources prelude files files_are empty named own parts loaded = tt

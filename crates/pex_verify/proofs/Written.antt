@@ -13,14 +13,14 @@ use Rattle.pex_set.specs.Names.{number_in}
 use Rattle.pex_values.specs.declared.values.PexFunction.{PexFunction}
 use Rattle.pex_values.specs.declared.values.PexState.{PexState}
 use Rattle.code_meaning.specs.Code.{State}
-use Rattle.pex_verify.specs.declared.loaded.LoadedFunction.{LoadedFunction}
+use Rattle.pex_verify.specs.declared.judged.JudgedFunction.{JudgedFunction}
 use Rattle.pex_verify.specs.declared.scope.Home.{Home}
 use Rattle.pex_verify.specs.declared.value_type.ValueType.TheVariants.{Of}
 use Rattle.pex_verify.specs.Heads.{Members, members_of, member_at}
 use Rattle.pex_verify.specs.Loading.{placed_at}
 use Rattle.pex_verify.specs.Matching.{Written, IsWritten}
 use Rattle.pex_verify.specs.Meanings.{value_meaning}
-use Rattle.pex_verify.specs.Plain.{function_of}
+use Rattle.pex_verify.specs.JudgedCode.{function_of}
 use Rattle.pex_verify.specs.Signatures.{Declared, declared_by, number_at, title_at, kind_at, has_bit}
 use Rattle.pex_verify.specs.Sites.{Site}
 use Rattle.pex_verify.specs.States.{own_written, member_written, member_in, lacking_places, lacking_written}
@@ -70,7 +70,7 @@ pub record IsNumberedAs (names : List (List ℕ)) (declared : Declared) (written
   pub is : declared_by written.numbers (written.name, written.function) ≡ declared
 
 module _ (names : List (List ℕ)) (outline : List ScriptShape) (site : Site) where
-  declares : (declared : Declared) (written : Written) (loaded : LoadedFunction)
+  declares : (declared : Declared) (written : Written) (loaded : JudgedFunction)
       → IsNumberedAs names declared written → IsWritten site written loaded → Declares site.set.types names declared (function_of outline loaded)
   declares declared written loaded h k =
       subst (λ d. Declares site.set.types names d (function_of outline loaded)) h.is
@@ -90,11 +90,11 @@ pub record IsViewOf (names : List (List ℕ)) (view : StateView) (written : Writ
   pub functions : AllZip (IsNumberedAs names) view.functions written.functions
 
 -- a state as code has it
-abbrev pub plain_state : List ScriptShape → Name × Vec LoadedFunction Global → State
+abbrev pub plain_state : List ScriptShape → Name × Vec JudgedFunction Global → State
 plain_state outline state = record { name = state.0; functions = map (function_of outline) state.1.items }
 
 module _ (names : List (List ℕ)) (outline : List ScriptShape) (site : Site) where
-  viewed_state : (view : StateView) (written : WrittenState) (loaded : Name × Vec LoadedFunction Global)
+  viewed_state : (view : StateView) (written : WrittenState) (loaded : Name × Vec JudgedFunction Global)
       → IsViewOf names view written → IsState site written loaded → IsViewed site.set.types names view (plain_state outline loaded)
   viewed_state view written loaded h k = record {
     name = ap (number_in names) k.name ∙ h.name;
@@ -102,7 +102,7 @@ module _ (names : List (List ℕ)) (outline : List ScriptShape) (site : Site) wh
         (zip_from_paired (IsWritten site) written.functions loaded.1.items k.functions);
   }
 
-  pub viewed_states : (views : List StateView) (written : List WrittenState) (loaded : List (Name × Vec LoadedFunction Global))
+  pub viewed_states : (views : List StateView) (written : List WrittenState) (loaded : List (Name × Vec JudgedFunction Global))
       → AllZip (IsViewOf names) views written → AreStates site written loaded → AllZip (IsViewed site.set.types names) views (map (plain_state outline) loaded)
   viewed_states views written loaded h k =
       zip-joined (IsViewOf names) (IsState site) (IsViewed site.set.types names) (plain_state outline) viewed_state views written loaded h (zip_from_paired (IsState site) written loaded k)

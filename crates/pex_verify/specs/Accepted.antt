@@ -5,8 +5,8 @@ use Rattle.core_tree.specs.declared.core_type.CoreType.{CoreType}
 use Rattle.core_tree.specs.declared.core_type.CoreType.TheVariants as kinds
 use Rattle.pex_verify.specs.declared.action.Action.{Action}
 use Rattle.pex_verify.specs.declared.action.Action.TheVariants as action
-use Rattle.pex_verify.specs.declared.loaded.Operand.{Operand}
-use Rattle.pex_verify.specs.declared.loaded.Operand.TheVariants as loaded
+use Rattle.pex_verify.specs.declared.judged.JudgedOperand.{JudgedOperand as Operand}
+use Rattle.pex_verify.specs.declared.judged.JudgedOperand.TheVariants as loaded
 use Rattle.pex_verify.specs.declared.operand_rules.Lookup.{Lookup}
 use Rattle.pex_verify.specs.declared.operand_rules.Lookup.TheVariants.{Function, Property}
 use Rattle.pex_verify.specs.declared.scope.FunctionScope.{FunctionScope}
@@ -15,6 +15,7 @@ use Rattle.pex_verify.specs.declared.value_type.ValueType.{ValueType}
 use Rattle.pex_verify.specs.declared.value_type.ValueType.TheVariants.{Of}
 use Rattle.pex_verify.specs.Judgement.{IsFor, IsOf, Takes, TakesCast, type_by}
 use Rattle.pex_verify.specs.Meanings.{element_type, script_type, result_meaning, value_meaning}
+use Rattle.pex_verify.specs.Soundness.{IsSize}
 
 -- the operand at a place
 abbrev pub at : List Operand → ℕ → Operand
@@ -37,11 +38,6 @@ IsArrayWith scope array holds = IsSomeAnd (element_type (type_by scope array)) h
 
 abbrev pub IsArray : FunctionScope → Operand → Type 0
 IsArray scope array = IsSome (element_type (type_by scope array))
-
--- a number of elements that stands in the code
-abbrev pub IsSize : Operand → Type 0
-IsSize (loaded.Int number) = (pos 1 ≤ℤ number) × (number ≤ℤ pos 128)
-IsSize _ = ⊥
 
 abbrev pub Creates : FunctionScope → Operand → Operand → Type 0
 Creates scope to size = IsArray scope to × IsSize size

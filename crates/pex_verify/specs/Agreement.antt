@@ -18,7 +18,7 @@ use Rattle.pex_verify.specs.declared.scripts.Signature.{Signature}
 use Rattle.pex_verify.specs.declared.value_type.ValueType.TheVariants.{Of}
 use Rattle.pex_verify.specs.Found.{function_found, property_found, parent_of, is_global, is_readable, is_writable}
 use Rattle.pex_verify.specs.Meanings.{Meanings, of_result, result_meaning, value_meaning}
-use Rattle.pex_verify.specs.Plain.{script_named}
+use Rattle.pex_verify.specs.JudgedCode.{script_named}
 use Rattle.pex_verify.specs.Types.{IsTypeAmong, IsValueTypeAmong}
 
 -- ---- sets

@@ -12,8 +12,8 @@ use Rattle.pex_verify.specs.declared.action.Action.{Action}
 use Rattle.pex_verify.specs.declared.action.Action.TheVariants as actions
 use Rattle.pex_verify.specs.declared.action.Use.{Use}
 use Rattle.pex_verify.specs.declared.action.Use.TheVariants as purpose
-use Rattle.pex_verify.specs.declared.loaded.Operand.{Operand}
-use Rattle.pex_verify.specs.declared.loaded.Operand.TheVariants as loaded
+use Rattle.pex_verify.specs.declared.judged.JudgedOperand.{JudgedOperand as Operand}
+use Rattle.pex_verify.specs.declared.judged.JudgedOperand.TheVariants as loaded
 use Rattle.pex_verify.specs.declared.operand_rules.Lookup.{Lookup}
 use Rattle.pex_verify.specs.declared.operand_rules.Lookup.TheVariants.{Unsought, Missing, Function, Property}
 use Rattle.pex_verify.specs.declared.scope.FunctionScope.{FunctionScope}

@@ -6,14 +6,14 @@ use Rattle.pex_values.specs.declared.values.Instruction.{Instruction}
 use Rattle.code_meaning.specs.Code.{Function, Script}
 use Rattle.run_laws.specs.TypedCode.{Scope, IsTyped}
 use Rattle.pex_verify.specs.declared.action.Action.{Action}
-use Rattle.pex_verify.specs.declared.loaded.LoadedInstruction.{LoadedInstruction}
-use Rattle.pex_verify.specs.declared.loaded.Operand.{Operand}
+use Rattle.pex_verify.specs.declared.judged.JudgedInstruction.{JudgedInstruction}
+use Rattle.pex_verify.specs.declared.judged.JudgedOperand.{JudgedOperand as Operand}
 use Rattle.pex_verify.specs.declared.operand_rules.Lookup.{Lookup}
 use Rattle.pex_verify.specs.declared.scope.FunctionScope.{FunctionScope}
 use Rattle.pex_verify.specs.Accepted.{HasInstance, OperandsFit}
 use Rattle.pex_verify.specs.Agreement.{Agrees, AreNumbered, Stands}
 use Rattle.pex_verify.specs.Found.{Allows, AreTold, LooksUp}
-use Rattle.pex_verify.specs.Plain.{instruction_of}
+use Rattle.pex_verify.specs.JudgedCode.{instruction_of}
 use Rattle.pex_verify.specs.Uses.{action_of, uses_of}
 
 -- operands, as the file has them and as they were resolved, are what an action asks for, with what it looks up
@@ -48,10 +48,10 @@ placed_in scope final =
     record { outline = final.outline; scripts = final.scripts; script = scope.home.now.here; function = final.function }
 
 -- whichever scripts they are, a loaded instruction is typed
-abbrev pub IsTypedIn : FunctionScope → LoadedInstruction → Type 0
+abbrev pub IsTypedIn : FunctionScope → JudgedInstruction → Type 0
 IsTypedIn scope loaded = (final : Final scope) → IsTyped (placed_in scope final) (instruction_of final.outline loaded)
 
 -- each of these
-abbrev pub AreTypedIn : FunctionScope → List LoadedInstruction → Type 0
+abbrev pub AreTypedIn : FunctionScope → List JudgedInstruction → Type 0
 AreTypedIn scope loaded =
     (final : Final scope) → AllByRecursion (IsTyped (placed_in scope final)) (map (instruction_of final.outline) loaded)

@@ -6,6 +6,10 @@ pub mod Objects
 pub mod Places
 pub mod Sources
 pub mod Sets
+pub mod JudgedCode
+pub mod Coded
+pub mod Naming
+pub mod Coding
 pub mod Plain
 pub mod Meanings
 pub mod Fitting

@@ -4,8 +4,8 @@ use Rattle.core_tree.specs.declared.outline.OutlineScript.{OutlineScript}
 use Rattle.papy_base.specs.Lineage.{AreRooted}
 use Rattle.pex_set.specs.Objects.{parents_in}
 use Rattle.pex_values.specs.declared.values.PexProperty.{PexProperty}
-use Rattle.pex_verify.specs.declared.loaded.LoadedProperty.{LoadedProperty}
-use Rattle.pex_verify.specs.declared.loaded.LoadedScript.{LoadedScript}
+use Rattle.pex_verify.specs.declared.judged.JudgedProperty.{JudgedProperty}
+use Rattle.pex_verify.specs.declared.judged.JudgedScript.{JudgedScript}
 use Rattle.pex_verify.specs.declared.members.MemberTable.{MemberTable}
 use Rattle.pex_verify.specs.declared.object.Loader.{Loader}
 use Rattle.pex_verify.specs.declared.scope.Home.{Home}
@@ -25,12 +25,12 @@ use Rattle.pex_verify.specs.Types.{IsValueTypeAmong}
 use Rattle.pex_verify.specs.Variables.{variable_type, type_of_variable}
 
 -- what is loaded for the properties of an object
-abbrev pub AreProperties : Home → List LoadedProperty → Type 0
+abbrev pub AreProperties : Home → List JudgedProperty → Type 0
 AreProperties home loaded =
-    Paired PexProperty LoadedProperty (λ n p l. IsProperty home n p l) home.object.now.properties.items loaded
+    Paired PexProperty JudgedProperty (λ n p l. IsProperty home n p l) home.object.now.properties.items loaded
 
 -- what is loaded for the object where this code stands
-pub record IsScriptOf (home : Home) (script : LoadedScript) (outline : OutlineScript) : Type 0 where
+pub record IsScriptOf (home : Home) (script : JudgedScript) (outline : OutlineScript) : Type 0 where
   pub properties : AreProperties home script.properties.items
   pub states : AreStates (site_of home) (states_written home home.object.now.states.items) script.states.items
   pub distinct : AreDistinct (state_numbers home)
@@ -52,7 +52,7 @@ abbrev pub placed_at : Home → Placed
 placed_at home = record { source = home.source.now; object = home.object.now }
 
 -- what is loaded for an object as the script of this number
-pub record IsObjectOf (judged : Judged) (here : ℕ) (placed : Placed) (script : LoadedScript) (outline : OutlineScript) : Type 0 where
+pub record IsObjectOf (judged : Judged) (here : ℕ) (placed : Placed) (script : JudgedScript) (outline : OutlineScript) : Type 0 where
   pub home : Home
   pub set : home.set.now ≡ judged.set
   pub members : home.members.now ≡ judged.members
@@ -62,19 +62,19 @@ pub record IsObjectOf (judged : Judged) (here : ℕ) (placed : Placed) (script :
   pub loaded : IsScriptOf home script outline
 
 -- the same, with the types of the script's variables
-pub record IsWholeObject (judged : Judged) (here : ℕ) (placed : Placed) (script : LoadedScript) (outline : OutlineScript) : Type 0 where
+pub record IsWholeObject (judged : Judged) (here : ℕ) (placed : Placed) (script : JudgedScript) (outline : OutlineScript) : Type 0 where
   pub object : IsObjectOf judged here placed script outline
   pub variables : map variable_type outline.variables.items ≡ map (type_of_variable judged.set.types placed.source.names.now) placed.object.variables.items
 
 -- the scripts and outlines that are loaded for these objects, in order
-pub record AreObjects (judged : Judged) (objects : List Placed) (scripts : List LoadedScript) (outlines : List OutlineScript) : Type 0 where
+pub record AreObjects (judged : Judged) (objects : List Placed) (scripts : List JudgedScript) (outlines : List OutlineScript) : Type 0 where
   pub script_count : length objects ≡ length scripts
   pub outline_count : length objects ≡ length outlines
-  pub each : (n : ℕ) (o : Placed) (s : LoadedScript) (l : OutlineScript) → n < length objects
+  pub each : (n : ℕ) (o : Placed) (s : JudgedScript) (l : OutlineScript) → n < length objects
       → IsWholeObject judged n (slice_index_or objects n o) (slice_index_or scripts n s) (slice_index_or outlines n l)
 
 -- what is loaded for the objects of these files, and how others found their members
-pub record IsLoadedSet (members : DefaultMembers) (sources : List SetFile) (scripts : List LoadedScript) (outlines : List OutlineScript) (table : MemberTable) : Type 0 where
+pub record IsLoadedSet (members : DefaultMembers) (sources : List SetFile) (scripts : List JudgedScript) (outlines : List OutlineScript) (table : MemberTable) : Type 0 where
   pub set : SetHeads
   pub numbered : AreNumbered (placed_objects sources) set.objects
   pub heads : AreHeads (members_of members) (parents_in set.objects) (placed_objects sources) set.heads.items

@@ -3,7 +3,7 @@ use Rattle.std.specs.Prelude.{◌≡◌, ℕ, List, map, Option}
 use Rattle.core_tree.specs.declared.core_type.CoreType.{CoreType}
 use Rattle.papy_base.specs.declared.name.Name.{Name}
 use Rattle.pex_values.specs.declared.values.PexFunction.{PexFunction}
-use Rattle.pex_verify.specs.declared.loaded.LoadedFunction.{LoadedFunction}
+use Rattle.pex_verify.specs.declared.judged.JudgedFunction.{JudgedFunction}
 use Rattle.pex_verify.specs.declared.value_type.ValueType.{ValueType}
 use Rattle.pex_verify.specs.declared.value_type.ValueType.TheVariants.{Of}
 use Rattle.pex_verify.specs.Meanings.{Meanings, result_meaning, value_meaning, of_result}
@@ -34,7 +34,7 @@ pub record Written : Type 0 where
   pub function : PexFunction
 
 -- what is loaded for it where it stands
-pub record IsWritten (site : Site) (written : Written) (loaded : LoadedFunction) : Type 0 where
+pub record IsWritten (site : Site) (written : Written) (loaded : JudgedFunction) : Type 0 where
   pub name : loaded.name ≡ title_at written.titles written.name
   pub parameters : map parameter_type loaded.parameters.items ≡ parameter_types site.set.types written.numbers written.function.parameters.items
   pub locals : map local_type loaded.locals.items ≡ local_types site.set.types written.numbers written.function.locals.items
@@ -43,6 +43,6 @@ pub record IsWritten (site : Site) (written : Written) (loaded : LoadedFunction)
   pub is_native : loaded.is_native ≡ has_bit written.function.bits 2
   pub typed : HasTypedCode site written.numbers written.titles loaded
 
-abbrev pub AreWritten : Site → List Written → List LoadedFunction → Type 0
+abbrev pub AreWritten : Site → List Written → List JudgedFunction → Type 0
 AreWritten site written loaded =
-    Paired Written LoadedFunction (λ n w f. IsWritten site w f) written loaded
+    Paired Written JudgedFunction (λ n w f. IsWritten site w f) written loaded

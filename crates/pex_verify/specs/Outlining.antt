@@ -5,24 +5,24 @@ use Rattle.std.specs.declared.vec.Vec.{Vec}
 use Rattle.core_tree.specs.declared.outline.OutlineScript.{OutlineScript}
 use Rattle.core_tree.specs.Outlines.{FunctionShape, function_shape}
 use Rattle.papy_base.specs.declared.name.Name.{Name}
-use Rattle.pex_verify.specs.declared.loaded.LoadedFunction.{LoadedFunction}
-use Rattle.pex_verify.specs.declared.loaded.LoadedScript.{LoadedScript}
+use Rattle.pex_verify.specs.declared.judged.JudgedFunction.{JudgedFunction}
+use Rattle.pex_verify.specs.declared.judged.JudgedScript.{JudgedScript}
 use Rattle.pex_verify.specs.declared.scope.Home.{Home}
 use Rattle.pex_verify.specs.Parents.{parent_in, parent_among}
 use Rattle.pex_verify.specs.Signatures.{title_at}
 
 -- what an outline keeps of a function
-abbrev pub loaded_shape : LoadedFunction → FunctionShape
+abbrev pub loaded_shape : JudgedFunction → FunctionShape
 loaded_shape f =
     record { name = f.name; parameters = map (λ parameter. parameter.1) f.parameters.items; result = f.result; is_global = f.is_global; is_native = f.is_native }
 
 -- the functions of the first state without name
-abbrev pub functions_without_state : List (Name × Vec LoadedFunction Global) → List LoadedFunction
+abbrev pub functions_without_state : List (Name × Vec JudgedFunction Global) → List JudgedFunction
 functions_without_state [] = []
 functions_without_state (state ∷ rest) = if length state.0 == 0 then state.1.items else functions_without_state rest
 
 -- what the outline of a script says
-pub record IsOutlineOf (home : Home) (script : LoadedScript) (outline : OutlineScript) : Type 0 where
+pub record IsOutlineOf (home : Home) (script : JudgedScript) (outline : OutlineScript) : Type 0 where
   pub name : outline.name ≡ title_at home.source.now.titles.now home.object.now.name
   pub parent : outline.parent ≡ parent_among (length home.set.now.heads.items) (parent_in home.set.now.heads.items home.here)
   pub variables : outline.variables.items ≡ home.variables.now.list.items

@@ -3,8 +3,8 @@ use Rattle.std.specs.Prelude.{◌≡◌, ℕ, List, [], ◌∷◌, map, bit_and,
 use Rattle.std.specs.Option.{option_map}
 use Rattle.pex_values.specs.declared.values.PexFunction.{PexFunction}
 use Rattle.pex_values.specs.declared.values.PexProperty.{PexProperty}
-use Rattle.pex_verify.specs.declared.loaded.LoadedFunction.{LoadedFunction}
-use Rattle.pex_verify.specs.declared.loaded.LoadedProperty.{LoadedProperty}
+use Rattle.pex_verify.specs.declared.judged.JudgedFunction.{JudgedFunction}
+use Rattle.pex_verify.specs.declared.judged.JudgedProperty.{JudgedProperty}
 use Rattle.pex_verify.specs.declared.scope.Home.{Home}
 use Rattle.pex_verify.specs.declared.value_type.ValueType.TheVariants.{Nothing, Of}
 use Rattle.pex_verify.specs.Matching.{IsWritten}
@@ -25,11 +25,11 @@ pub record Writes (types : Meanings) (numbers : List ℕ) (kind : ℕ) (function
   pub answer : result_meaning types (number_at numbers function.result) ≡ Nothing
 
 -- what is loaded for a function of a property, which is neither global nor native, where the file has one
-pub record IsAccessor (home : Home) (name : ℕ) (function : PexFunction) (loaded : LoadedFunction) : Type 0 where
+pub record IsAccessor (home : Home) (name : ℕ) (function : PexFunction) (loaded : JudgedFunction) : Type 0 where
   pub written : IsWritten (site_of home) (own_written home (name, function)) loaded
   pub plain : bit_and function.bits 3 ≡ 0
 
-abbrev pub AreAccessors : Home → ℕ → (PexFunction → Type 0) → Option PexFunction → Option LoadedFunction → Type 0
+abbrev pub AreAccessors : Home → ℕ → (PexFunction → Type 0) → Option PexFunction → Option JudgedFunction → Type 0
 AreAccessors home name HasForm None None = Unit {0}
 AreAccessors home name HasForm (Some function) (Some loaded) = IsAccessor home name function loaded × HasForm function
 AreAccessors home name HasForm _ _ = ⊥
@@ -42,7 +42,7 @@ IsOfKind home property (Some reference) (Some place) =
 IsOfKind home property _ _ = ⊥
 
 -- what is loaded for a property
-pub record IsProperty (home : Home) (place : ℕ) (property : PexProperty) (loaded : LoadedProperty) : Type 0 where
+pub record IsProperty (home : Home) (place : ℕ) (property : PexProperty) (loaded : JudgedProperty) : Type 0 where
   pub name : loaded.name ≡ title_at home.source.now.titles.now property.name
   pub kind : Of loaded.kind ≡ value_meaning home.set.now.types (number_at home.source.now.names.now property.kind)
   pub bits : loaded.bits ≡ property.bits

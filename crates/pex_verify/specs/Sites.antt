@@ -7,11 +7,11 @@ use Rattle.pex_set.specs.Names.{empty_name, number_in}
 use Rattle.run_laws.specs.Fits.{variable_kinds}
 use Rattle.code_meaning.specs.Code.{Script}
 use Rattle.run_laws.specs.TypedCode.{IsTyped}
-use Rattle.pex_verify.specs.declared.loaded.LoadedFunction.{LoadedFunction}
+use Rattle.pex_verify.specs.declared.judged.JudgedFunction.{JudgedFunction}
 use Rattle.pex_verify.specs.declared.scope.Home.{Home}
 use Rattle.pex_verify.specs.declared.scripts.SetHeads.{SetHeads}
 use Rattle.pex_verify.specs.Agreement.{Agrees}
-use Rattle.pex_verify.specs.Plain.{function_of, instruction_of}
+use Rattle.pex_verify.specs.JudgedCode.{function_of, instruction_of}
 use Rattle.pex_verify.specs.Types.{IsTypeAmong}
 
 -- the tables of a set, and the script of this number with these variables
@@ -42,6 +42,6 @@ pub record FinalAt (site : Site) (numbers : List ℕ) (titles : List (List ℕ))
   pub variables_among : All (λ variable. IsTypeAmong (vec_len site.set.heads) variable.kind) site.variables
 
 -- whichever scripts they are, the code of a loaded function is typed
-abbrev pub HasTypedCode : Site → List ℕ → List (List ℕ) → LoadedFunction → Type 0
+abbrev pub HasTypedCode : Site → List ℕ → List (List ℕ) → JudgedFunction → Type 0
 HasTypedCode site numbers titles loaded =
     (final : FinalAt site numbers titles) → AllByRecursion (IsTyped (record { outline = final.outline; scripts = final.scripts; script = site.here; function = function_of final.outline loaded })) (map (instruction_of final.outline) loaded.code.items)

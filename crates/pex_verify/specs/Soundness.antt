@@ -1,5 +1,5 @@
 -- What holds of the functions and scripts of accepted files.
-use Rattle.std.specs.Prelude.{◌≡◌, ℕ, ◌+◌, ◌<◌, ◌≤◌, pos, ◌+ℤ◌, List, length, vec_len, All, Bool, true, false, IsTrue, Option, Some, None, IfSome, slice_get, slice_index_or}
+use Rattle.std.specs.Prelude.{◌≡◌, ℕ, ◌+◌, ◌<◌, ◌≤◌, pos, ◌+ℤ◌, ◌≤ℤ◌, List, length, vec_len, All, Bool, true, false, IsTrue, Option, Some, None, IfSome, slice_get, slice_index_or}
 use Rattle.core_tree.specs.declared.outline.OutlineFunction.{OutlineFunction}
 use Rattle.core_tree.specs.declared.outline.OutlineProperty.{OutlineProperty}
 use Rattle.core_tree.specs.declared.outline.OutlineScript.{OutlineScript}
@@ -8,12 +8,12 @@ use Rattle.pex_verify.specs.declared.action.Action.{Action}
 use Rattle.pex_verify.specs.declared.action.Action.TheVariants as action
 use Rattle.pex_verify.specs.declared.action.Use.{Use}
 use Rattle.pex_verify.specs.declared.action.Use.TheVariants as purpose
-use Rattle.pex_verify.specs.declared.loaded.Operand.{Operand}
-use Rattle.pex_verify.specs.declared.loaded.Operand.TheVariants.{Word, Int, Slot, Variable}
-use Rattle.pex_verify.specs.declared.loaded.LoadedInstruction.{LoadedInstruction}
-use Rattle.pex_verify.specs.declared.loaded.LoadedFunction.{LoadedFunction}
-use Rattle.pex_verify.specs.declared.loaded.LoadedProperty.{LoadedProperty}
-use Rattle.pex_verify.specs.declared.loaded.LoadedScript.{LoadedScript}
+use Rattle.pex_verify.specs.declared.judged.JudgedOperand.{JudgedOperand as Operand}
+use Rattle.pex_verify.specs.declared.judged.JudgedOperand.TheVariants.{NoneValue, Word, Int, Slot, Variable}
+use Rattle.pex_verify.specs.declared.judged.JudgedInstruction.{JudgedInstruction}
+use Rattle.pex_verify.specs.declared.judged.JudgedFunction.{JudgedFunction}
+use Rattle.pex_verify.specs.declared.judged.JudgedProperty.{JudgedProperty}
+use Rattle.pex_verify.specs.declared.judged.JudgedScript.{JudgedScript}
 use Rattle.pex_verify.specs.Types.{IsTypeAmong}
 use Rattle.pex_verify.specs.Uses.{action_of, uses_by, use_at}
 
@@ -68,43 +68,54 @@ Leads (Some action.Jump) place count fixed landing = LeadsBy place count (slice_
 Leads (Some action.JumpIf) place count fixed landing = LeadsBy place count (slice_get fixed 1) landing
 Leads _ place count fixed landing = landing ≡ None
 
+-- a number of elements that stands in the code
+abbrev pub IsSize : Operand → Type 0
+IsSize (Int number) = (pos 1 ≤ℤ number) × (number ≤ℤ pos 128)
+IsSize _ = ⊥
+
+-- how many elements an instruction makes, if it makes an array
+abbrev pub HasSize : Option Action → List Operand → Type 0
+HasSize (Some action.CreateArray) fixed = IsSize (slice_index_or fixed 1 NoneValue)
+HasSize _ fixed = Unit {0}
+
 -- the instruction at a place of so many, in a function with so many parameters and locals of a script with these bounds
-pub record IsSoundInstruction (bounds : Bounds) (slots count place : ℕ) (i : LoadedInstruction) : Type 0 where
+pub record IsSoundInstruction (bounds : Bounds) (slots count place : ℕ) (i : JudgedInstruction) : Type 0 where
   pub fixed : AreResolved slots bounds.variables (uses_by (action_of i.opcode)) i.fixed.items
   pub more : All (IsResolved slots bounds.variables purpose.Read) i.more.items
   pub jump : Leads (action_of i.opcode) place count i.fixed.items i.jump
+  pub size : HasSize (action_of i.opcode) i.fixed.items
   pub function : IfSome i.function (λ f. f.script < bounds.scripts)
 
 -- each of these first instructions of a function with so many in all
-abbrev pub AreSoundInstructions : Bounds → ℕ → ℕ → List LoadedInstruction → Type 0
+abbrev pub AreSoundInstructions : Bounds → ℕ → ℕ → List JudgedInstruction → Type 0
 AreSoundInstructions bounds slots count code =
-    (k : ℕ) (d : LoadedInstruction) → k < length code → IsSoundInstruction bounds slots count k (slice_index_or code k d)
+    (k : ℕ) (d : JudgedInstruction) → k < length code → IsSoundInstruction bounds slots count k (slice_index_or code k d)
 
-abbrev pub slot_count : LoadedFunction → ℕ
+abbrev pub slot_count : JudgedFunction → ℕ
 slot_count f = vec_len f.parameters + vec_len f.locals
 
 -- a function of a script with these bounds
-pub record IsSoundFunction (bounds : Bounds) (f : LoadedFunction) : Type 0 where
+pub record IsSoundFunction (bounds : Bounds) (f : JudgedFunction) : Type 0 where
   pub answer : IfSome f.result (IsTypeAmong bounds.scripts)
   pub parameters : All (λ p. IsTypeAmong bounds.scripts p.1) f.parameters.items
   pub locals : All (λ l. IfSome l.1 (IsTypeAmong bounds.scripts)) f.locals.items
   pub lines : vec_len f.lines ≡ vec_len f.code
   pub code : AreSoundInstructions bounds (slot_count f) (vec_len f.code) f.code.items
 
-pub record IsSoundProperty (bounds : Bounds) (p : LoadedProperty) : Type 0 where
+pub record IsSoundProperty (bounds : Bounds) (p : JudgedProperty) : Type 0 where
   pub kind : IsTypeAmong bounds.scripts p.kind
   pub variable : IfSome p.variable (λ n. n < bounds.variables)
   pub read : IfSome p.read (IsSoundFunction bounds)
   pub write : IfSome p.write (IsSoundFunction bounds)
 
-abbrev pub AreSoundFunctions : Bounds → List LoadedFunction → Type 0
+abbrev pub AreSoundFunctions : Bounds → List JudgedFunction → Type 0
 AreSoundFunctions bounds functions = All (IsSoundFunction bounds) functions
 
 -- the functions of a state
-pub record IsSoundState (bounds : Bounds) (functions : List LoadedFunction) : Type 0 where
+pub record IsSoundState (bounds : Bounds) (functions : List JudgedFunction) : Type 0 where
   pub each : AreSoundFunctions bounds functions
 
-pub record IsSoundScript (bounds : Bounds) (s : LoadedScript) : Type 0 where
+pub record IsSoundScript (bounds : Bounds) (s : JudgedScript) : Type 0 where
   pub properties : All (IsSoundProperty bounds) s.properties.items
   pub states : All (λ state. IsSoundState bounds state.1.items) s.states.items
 

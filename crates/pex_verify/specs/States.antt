@@ -6,7 +6,7 @@ use Rattle.std.specs.declared.vec.Vec.{Vec}
 use Rattle.papy_base.specs.declared.name.Name.{Name}
 use Rattle.pex_values.specs.declared.values.PexFunction.{PexFunction}
 use Rattle.pex_values.specs.declared.values.PexState.{PexState}
-use Rattle.pex_verify.specs.declared.loaded.LoadedFunction.{LoadedFunction}
+use Rattle.pex_verify.specs.declared.judged.JudgedFunction.{JudgedFunction}
 use Rattle.pex_verify.specs.declared.scope.Home.{Home}
 use Rattle.pex_verify.specs.Heads.{lacking_in}
 use Rattle.pex_verify.specs.Matching.{Written, AreWritten}
@@ -66,10 +66,10 @@ states_written home states =
     map (state_written home) states ++ (if list_any (is_empty_state home) states then [] else added_state (lacking_written home))
 
 -- what is loaded for a state
-pub record IsState (site : Site) (written : WrittenState) (loaded : Name × Vec LoadedFunction Global) : Type 0 where
+pub record IsState (site : Site) (written : WrittenState) (loaded : Name × Vec JudgedFunction Global) : Type 0 where
   pub name : loaded.0 ≡ written.name
   pub functions : AreWritten site written.functions loaded.1.items
 
-abbrev pub AreStates : Site → List WrittenState → List (Name × Vec LoadedFunction Global) → Type 0
+abbrev pub AreStates : Site → List WrittenState → List (Name × Vec JudgedFunction Global) → Type 0
 AreStates site written loaded =
-    Paired WrittenState (Name × Vec LoadedFunction Global) (λ n w s. IsState site w s) written loaded
+    Paired WrittenState (Name × Vec JudgedFunction Global) (λ n w s. IsState site w s) written loaded

@@ -1,18 +1,21 @@
 -- What a whole set is, and was judged by.
-use Rattle.std.specs.Prelude.{◌≡◌, ℕ, List, [], ◌∷◌, map, Some, All}
+use Rattle.std.specs.Prelude.{◌≡◌, ℕ, List, [], ◌∷◌, length, map, Some, All}
 use Rattle.core_tree.specs.declared.outline.OutlineScript.{OutlineScript}
 use Rattle.pex_set.specs.Names.{empty_name, number_in}
 use Rattle.pex_values.specs.declared.values.Pex.{Pex}
-use Rattle.pex_verify.specs.declared.loaded.LoadedScript.{LoadedScript}
+use Rattle.pex_verify.specs.declared.judged.JudgedScript.{JudgedScript}
 use Rattle.pex_verify.specs.declared.members.MemberTable.{MemberTable}
 use Rattle.pex_verify.specs.declared.sources.DefaultMembers.{DefaultMembers}
 use Rattle.pex_verify.specs.declared.sources.SetFile.{SetFile}
+use Rattle.pex_verify.specs.Coded.{AreCodedScripts}
+use Rattle.pex_verify.specs.JudgedCode.{script_of}
 use Rattle.pex_verify.specs.Loading.{IsLoadedSet}
-use Rattle.pex_verify.specs.Sets.{LoadedSet, IsSoundSet}
+use Rattle.pex_verify.specs.Plain.{outline_of, scripts_of}
+use Rattle.pex_verify.specs.Sets.{JudgedSet, LoadedSet, IsSoundSet}
 use Rattle.pex_verify.specs.Sources.{HaveParts, IsNamed}
 
 -- the files, with the numbers of their strings in one table of names, and what is loaded for their objects
-pub record IsJudged (files : List Pex) (scripts : List LoadedScript) (outlines : List OutlineScript) : Type 0 where
+pub record IsJudged (files : List Pex) (scripts : List JudgedScript) (outlines : List OutlineScript) : Type 0 where
   pub names : List (List ℕ)
   pub members : DefaultMembers
   pub sources : List SetFile
@@ -25,7 +28,15 @@ pub record IsJudged (files : List Pex) (scripts : List LoadedScript) (outlines :
   pub parts : All (λ source. HaveParts source.pex.now) sources
   pub loaded : IsLoadedSet members sources scripts outlines table
 
--- a set that `verify` gives
-pub record IsWholeSet (set : LoadedSet) : Type 0 where
+-- a set before its code is made loaded code
+pub record IsJudgedSet (set : JudgedSet) : Type 0 where
   pub sound : IsSoundSet set
   pub judged : IsJudged set.files set.scripts set.outline
+
+-- a set that `verify` gives: what was judged, with loaded code that means the same
+pub record IsWholeSet (set : LoadedSet) : Type 0 where
+  pub scripts : List JudgedScript
+  pub judged : IsJudgedSet (record { outline = set.outline; files = set.files; scripts = scripts })
+  pub count : length scripts ≡ length set.scripts
+  pub means : map (script_of (outline_of set)) scripts ≡ scripts_of set
+  pub coded : AreCodedScripts set.outline set.scripts

@@ -11,7 +11,7 @@ ghost use Rattle.pex_verify.specs.Properties.{Reads, Writes, IsAccessor, AreAcce
 
 use crate::fault::{Judged, VerifyRule, check, refused};
 use crate::function::{has_too_many_slots, known_type, load_function};
-use crate::loaded::{LoadedFunction, LoadedProperty};
+use crate::judged::{JudgedFunction, JudgedProperty};
 use crate::scope::{Home, SlotList};
 use crate::scripts::KIND_BITS;
 use crate::sources::{OF_READ, OF_WRITE};
@@ -26,7 +26,7 @@ pub(crate) fn load_property(
     slots: &mut SlotList,
     place: usize,
     property: &PexProperty,
-) -> Judged<LoadedProperty>
+) -> Judged<JudgedProperty>
     ensures sound { IfOk result (IsSoundProperty (bounds_of home.now)) }
     ensures property { IfOk result (IsProperty home.now place property.now) }
 {
@@ -35,7 +35,7 @@ pub(crate) fn load_property(
     let name = home.source.title(home.alloc, property.name)?;
     let read = load_reader(home, slots, property)?;
     let write = load_writer(home, slots, property)?;
-    Ok(LoadedProperty {
+    Ok(JudgedProperty {
         name,
         kind,
         bits: property.bits,
@@ -104,7 +104,7 @@ fn load_reader(
     home: &Home<'_>,
     slots: &mut SlotList,
     property: &PexProperty,
-) -> Judged<Option<LoadedFunction>>
+) -> Judged<Option<JudgedFunction>>
     ensures sound { IfOk result (λ function. IfSome function (IsSoundFunction (bounds_of home.now))) }
     ensures written { IfOk result (AreAccessors home.now property.now.name (Reads home.now.source.now.names.now (number_at home.now.source.now.names.now property.now.kind)) property.now.read) }
 {
@@ -120,7 +120,7 @@ fn load_writer(
     home: &Home<'_>,
     slots: &mut SlotList,
     property: &PexProperty,
-) -> Judged<Option<LoadedFunction>>
+) -> Judged<Option<JudgedFunction>>
     ensures sound { IfOk result (λ function. IfSome function (IsSoundFunction (bounds_of home.now))) }
     ensures written { IfOk result (AreAccessors home.now property.now.name (Writes home.now.set.now.types home.now.source.now.names.now (number_at home.now.source.now.names.now property.now.kind)) property.now.write) }
 {
@@ -140,7 +140,7 @@ fn load_accessor(
     function: &PexFunction,
     purpose: u8,
     is_right: bool,
-) -> Judged<LoadedFunction>
+) -> Judged<JudgedFunction>
     ensures sound { IfOk result (IsSoundFunction (bounds_of home.now)) }
     ensures right { OnOk result (IsTrue is_right) }
     ensures accessor { IfOk result (IsAccessor home.now property.now.name function.now) }

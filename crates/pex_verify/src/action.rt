@@ -4,7 +4,7 @@ ghost use Rattle.pex_verify.specs.Uses as spec;
 
 /// What an instruction does. Opcodes that ask the same of their operands share one.
 #[derive(Clone, Copy, PartialEq, Eq)]
-pub enum Action {
+pub(crate) enum Action {
     /// nop
     Nothing,
     /// fadd, fsub, fmul, fdiv, fneg
@@ -55,7 +55,7 @@ pub enum Action {
 
 /// What an instruction uses an operand for.
 #[derive(Clone, Copy, PartialEq, Eq)]
-pub enum Use {
+pub(crate) enum Use {
     /// Its value is read.
     Read,
     /// A result is stored in it.
@@ -85,7 +85,7 @@ static ACTIONS: [Action; 36] = [
 const LAST: u8 = 0x23;
 
 /// What instructions of this opcode do, none where it is over 23h.
-pub fn action_of(opcode: u8) -> Option<Action>
+pub(crate) fn action_of(opcode: u8) -> Option<Action>
     ensures { result ≡ spec.action_of opcode }
 {
     if opcode > LAST {

@@ -10,7 +10,7 @@ ghost use Rattle.pex_verify.specs.Soundness.{IsSoundFunction, AreSoundInstructio
 
 use crate::fault::{Judged, VerifyRule, at_instruction, refused};
 use crate::instruction::load_instruction;
-use crate::loaded::{LoadedFunction, LoadedInstruction};
+use crate::judged::{JudgedFunction, JudgedInstruction};
 use crate::scope::{FunctionScope, Home, SlotList};
 use crate::scripts::{GLOBAL, NATIVE};
 use crate::sources::{SetFile, lines_of};
@@ -37,7 +37,7 @@ pub(crate) fn load_function(
     name: u16,
     function: &PexFunction,
     lines: &[u16],
-) -> Judged<LoadedFunction>
+) -> Judged<JudgedFunction>
     ensures sound { IfOk result (IsSoundFunction (bounds_of home.now)) }
     ensures written { IfOk result (IsWritten (site_of home.now) (record { numbers = source.now.names.now; titles = source.now.titles.now; name = name; function = function.now })) }
 {
@@ -57,7 +57,7 @@ pub(crate) fn load_function(
     };
     let code = load_code(&scope, function.code.as_slice())?;
     let lines = lines_of(alloc, lines, code.len())?;
-    Ok(LoadedFunction {
+    Ok(JudgedFunction {
         name: source.title(alloc, name)?,
         result,
         is_global,
@@ -146,7 +146,7 @@ fn judged_slot(
 }
 
 // The code of a function with its operands resolved.
-fn load_code(scope: &FunctionScope<'_>, code: &[Instruction]) -> Judged<Vec<LoadedInstruction>>
+fn load_code(scope: &FunctionScope<'_>, code: &[Instruction]) -> Judged<Vec<JudgedInstruction>>
     ensures sound { IfOk result (λ loaded. AreSoundInstructions (bounds_of scope.now.home.now) (vec_len scope.now.slots.now.list) (vec_len loaded) loaded.items) }
     ensures typed { IfOk result (λ loaded. AreTypedIn scope.now loaded.items) }
 {

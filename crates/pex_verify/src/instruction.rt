@@ -2,7 +2,7 @@
 ghost use Rattle.std.specs.Prelude.{◌≡◌, vec_len, IfOk, ◌<◌, ◌≤◌, ◌+ℤ◌, ℕ, pos, length, IfSome, Some, option_copied};
 ghost use Rattle.pex_verify.specs.Found.{AreTold, IsTold, Allows};
 ghost use Rattle.pex_verify.specs.Uses.{use_at as use_in, action_of as action_by};
-ghost use Rattle.pex_verify.specs.Soundness.{IsResolved, AreResolved, IsSoundInstruction, Leads, LeadsBy};
+ghost use Rattle.pex_verify.specs.Soundness.{IsResolved, AreResolved, IsSoundInstruction, HasSize, Leads, LeadsBy};
 ghost use Rattle.pex_values.specs.declared.values.Datum.TheVariants.{Word};
 ghost use Rattle.pex_verify.specs.Accepted.{HasInstance, OperandsFit};
 ghost use Rattle.pex_verify.specs.Judged.{IsTypedIn};
@@ -11,7 +11,8 @@ ghost use Rattle.pex_verify.specs.declared.action.Use.TheVariants.{Read};
 
 use crate::action::{Action, Use, action_of, uses_of};
 use crate::fault::{Judged, VerifyRule, check, refused};
-use crate::loaded::{LoadedInstruction, MethodPlace, Operand};
+use crate::judged::{JudgedInstruction, JudgedOperand};
+use loaded_code::MethodPlace;
 use crate::members::method_place;
 use crate::operand_rules::{Lookup, look_up, name_at, operands_fit};
 use crate::scope::FunctionScope;
@@ -19,7 +20,7 @@ use papy_base::{TEXT_LIMIT, Text};
 use pex_values::{Datum, Instruction};
 
 // The operands that are used so. Those behind the last use are read.
-fn resolve_all(scope: &FunctionScope<'_>, uses: &[Use], data: &[Datum]) -> Judged<Vec<Operand>>
+fn resolve_all(scope: &FunctionScope<'_>, uses: &[Use], data: &[Datum]) -> Judged<Vec<JudgedOperand>>
     ensures resolved { IfOk result (λ operands. AreResolved (vec_len scope.now.slots.now.list) (vec_len scope.now.home.now.variables.now.list) uses.now operands.items) }
     ensures told { IfOk result (λ operands. AreTold scope.now uses.now «data».now operands.items) }
 {
@@ -36,24 +37,24 @@ fn use_at(uses: &[Use], place: usize) -> Use
     uses.get(place).copied().unwrap_or(Use::Read)
 }
 
-fn resolve(scope: &FunctionScope<'_>, purpose: Use, datum: Datum) -> Judged<Operand>
+fn resolve(scope: &FunctionScope<'_>, purpose: Use, datum: Datum) -> Judged<JudgedOperand>
     ensures resolved { IfOk result (IsResolved (vec_len scope.now.slots.now.list) (vec_len scope.now.home.now.variables.now.list) purpose) }
     ensures told { IfOk result (IsTold scope.now purpose datum) }
 {
     match datum {
-        Datum::NoneValue => Ok(Operand::NoneValue),
+        Datum::NoneValue => Ok(JudgedOperand::NoneValue),
         Datum::Word(reference) => resolve_word(scope, purpose, reference),
         Datum::Quoted(reference) => {
             let text = scope.source.text(reference);
-            Ok(Operand::Quoted(Text::try_from_bytes(scope.home.alloc, text)?))
+            Ok(JudgedOperand::Quoted(Text::try_from_bytes(scope.home.alloc, text)?))
         }
-        Datum::Int(number) => Ok(Operand::Int(number)),
+        Datum::Int(number) => Ok(JudgedOperand::Int(number)),
         Datum::Float(_) => Err(refused(VerifyRule::FloatValue)),
-        Datum::Bool(byte) => Ok(Operand::Bool(byte != 0)),
+        Datum::Bool(byte) => Ok(JudgedOperand::Bool(byte != 0)),
     }
 }
 
-fn resolve_word(scope: &FunctionScope<'_>, purpose: Use, reference: u16) -> Judged<Operand>
+fn resolve_word(scope: &FunctionScope<'_>, purpose: Use, reference: u16) -> Judged<JudgedOperand>
     ensures resolved { IfOk result (IsResolved (vec_len scope.now.slots.now.list) (vec_len scope.now.home.now.variables.now.list) purpose) }
     ensures told { IfOk result (IsTold scope.now purpose (Word reference)) }
 {
@@ -63,7 +64,7 @@ fn resolve_word(scope: &FunctionScope<'_>, purpose: Use, reference: u16) -> Judg
             meaning.ok_or(refused(VerifyRule::UnknownVariable))
         }
         Use::Name | Use::Number => {
-            Ok(Operand::Word(scope.source.title(scope.home.alloc, reference)?))
+            Ok(JudgedOperand::Word(scope.source.title(scope.home.alloc, reference)?))
         }
     }
 }
@@ -74,12 +75,12 @@ fn has_float(values: &[Datum]) -> bool {
 }
 
 // Whether one of these operands is a text of over 1,024 bytes.
-fn has_long_text(operands: &[Operand]) -> bool {
+fn has_long_text(operands: &[JudgedOperand]) -> bool {
     operands.iter().any(|operand| is_long_text(operand))
 }
 
-fn is_long_text(operand: &Operand) -> bool {
-    matches!(operand, Operand::Quoted(text) if text.as_bytes().len() > TEXT_LIMIT)
+fn is_long_text(operand: &JudgedOperand) -> bool {
+    matches!(operand, JudgedOperand::Quoted(text) if text.as_bytes().len() > TEXT_LIMIT)
 }
 
 /// The instruction at this place of so many with its operands resolved, or the lowest rule that it breaks.
@@ -88,7 +89,7 @@ pub(crate) fn load_instruction(
     place: usize,
     count: usize,
     instruction: &Instruction,
-) -> Judged<LoadedInstruction>
+) -> Judged<JudgedInstruction>
     ensures sound { IfOk result (IsSoundInstruction (bounds_of scope.now.home.now) (vec_len scope.now.slots.now.list) count place) }
     ensures typed { IfOk result (IsTypedIn scope.now) }
 {
@@ -103,7 +104,7 @@ pub(crate) fn load_instruction(
     let jump = jump_of(action, fixed.as_slice(), place, count)?;
     let has_long = has_long_text(fixed.as_slice()) || has_long_text(more.as_slice());
     check(!has_long, VerifyRule::TextTooLong)?;
-    Ok(LoadedInstruction {
+    Ok(JudgedInstruction {
         opcode: instruction.opcode,
         fixed,
         more,
@@ -136,12 +137,13 @@ fn judged_action(instruction: &Instruction) -> Judged<Action>
 fn broken_rule(
     scope: &FunctionScope<'_>,
     action: Action,
-    fixed: &[Operand],
-    more: &[Operand],
+    fixed: &[JudgedOperand],
+    more: &[JudgedOperand],
     found: Lookup<'_>,
 ) -> Option<VerifyRule>
     ensures instance { result ≡ None → HasInstance scope.now action }
     ensures fit { result ≡ None → OperandsFit scope.now action fixed.now more.now found.entry }
+    ensures size { result ≡ None → HasSize (Some action) fixed.now }
     ensures allowed { result ≡ None → Allows action (length more.now) found.entry }
 {
     // A call of a parent's method uses the instance, and a global function has none.
@@ -155,7 +157,7 @@ fn broken_rule(
 }
 
 // Where a jump leads. Its offset counts from its own place.
-fn jump_of(action: Action, fixed: &[Operand], place: usize, count: usize) -> Judged<Option<u16>>
+fn jump_of(action: Action, fixed: &[JudgedOperand], place: usize, count: usize) -> Judged<Option<u16>>
     ensures { IfOk result (Leads (Some action) place count fixed.now) }
 {
     match action {
@@ -165,10 +167,10 @@ fn jump_of(action: Action, fixed: &[Operand], place: usize, count: usize) -> Jud
     }
 }
 
-fn jump_by(place: usize, offset: Option<&Operand>, count: usize) -> Judged<Option<u16>>
+fn jump_by(place: usize, offset: Option<&JudgedOperand>, count: usize) -> Judged<Option<u16>>
     ensures { IfOk result (LeadsBy place count (option_copied offset.entry)) }
 {
-    let Some(Operand::Int(offset)) = offset else {
+    let Some(JudgedOperand::Int(offset)) = offset else {
         return Err(refused(VerifyRule::OperandType));
     };
     match landing(place, *offset, count) {

@@ -6,9 +6,12 @@
 
 mod accessors;
 mod action;
+mod coded;
 mod fault;
+mod form;
 mod function;
 mod instruction;
+mod judged;
 mod loaded;
 mod members;
 mod object;
@@ -21,11 +24,10 @@ mod typed_sets;
 mod value_type;
 mod verifier;
 
-pub use action::{Action, Use, action_of};
 pub use fault::{VerifyFault, VerifyRule};
-pub use loaded::{
-    Loaded, LoadedFunction, LoadedInstruction, LoadedProperty, LoadedScript, MethodPlace, Operand,
-    PropertyPlace,
+pub use loaded::Loaded;
+pub use loaded_code::{
+    LoadedFunction, LoadedInstruction, LoadedProperty, LoadedScript, MethodPlace, Operand, PropertyPlace,
 };
 pub use typed_sets::verified_sets_are_typed;
 pub use verifier::verify;

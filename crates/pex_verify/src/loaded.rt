@@ -3,99 +3,13 @@ ghost use Rattle.std.specs.Prelude.{◌≡◌, ◌<◌, length, vec_len, slice_i
 ghost use Rattle.pex_verify.specs.Files.{IsFile};
 
 use crate::members::{MemberTable, method_place};
-use core_tree::{CoreType, Outline};
-use papy_base::{Made, Name, Text};
+use core_tree::Outline;
+use loaded_code::{LoadedScript, MethodPlace, PropertyPlace};
+use papy_base::Made;
 use pex_set::{EMPTY_NAME, NameNumbers};
 use pex_values::Pex;
 use std::alloc::Global;
 use std::marker::Model;
-
-/// An operand of an instruction. An identifier that is read or written stands as what it means.
-#[derive(Drop)]
-pub enum Operand {
-    NoneValue,
-    /// The name of a function, a property or a script, as the file spells it.
-    Word(Name),
-    Quoted(Text),
-    Int(i32),
-    Bool(bool),
-    /// A parameter or a local: its number among the parameters and the locals behind them.
-    Slot(u16),
-    /// A variable of the script: its number among the script's variables.
-    Variable(u16),
-    /// `self`
-    Instance,
-    /// `::State`
-    State,
-}
-
-/// An instruction.
-#[derive(Drop)]
-pub struct LoadedInstruction {
-    pub opcode: u8,
-    /// The operands that the opcode always has.
-    pub fixed: Vec<Operand>,
-    /// The arguments of a call.
-    pub more: Vec<Operand>,
-    /// Where a jump leads: the number of an instruction, or how many there are.
-    pub jump: Option<u16>,
-    /// The number of the name of the method or property that is meant.
-    pub name: Option<usize>,
-    /// The global function that a callstatic calls.
-    pub function: Option<MethodPlace>,
-}
-
-/// A function of a state, or one that reads or writes a property and has the property's name.
-#[derive(Drop)]
-pub struct LoadedFunction {
-    pub name: Name,
-    pub result: Option<CoreType>,
-    pub is_global: bool,
-    pub is_native: bool,
-    pub parameters: Vec<(Name, CoreType)>,
-    /// The locals, which are numbered behind the parameters. One of the type None has no type here.
-    pub locals: Vec<(Name, Option<CoreType>)>,
-    pub code: Vec<LoadedInstruction>,
-    /// The source line of each instruction, 0 where the file tells none.
-    pub lines: Vec<u16>,
-}
-
-/// A property.
-#[derive(Drop)]
-pub struct LoadedProperty {
-    pub name: Name,
-    pub kind: CoreType,
-    /// 1 for read, 2 for write, 4 for auto. The higher bits are those of the file.
-    pub bits: u8,
-    /// The number of an auto property's variable among those of its script.
-    pub variable: Option<u16>,
-    pub read: Option<LoadedFunction>,
-    pub write: Option<LoadedFunction>,
-}
-
-/// A script. The members that a script without parent lacks stand last in its empty state. Where it has no
-/// empty state, one is added as its last state.
-#[derive(Drop)]
-pub struct LoadedScript {
-    pub properties: Vec<LoadedProperty>,
-    pub states: Vec<(Name, Vec<LoadedFunction>)>,
-}
-
-/// A function of a state: the script's number, the state's place in the script, and the function's place
-/// in the state.
-#[derive(Clone, Copy, PartialEq, Eq)]
-pub struct MethodPlace {
-    pub script: u16,
-    pub state: usize,
-    pub place: usize,
-}
-
-/// A property: its script's number, and its place among the script's properties.
-#[derive(Clone, Copy, PartialEq, Eq)]
-pub struct PropertyPlace {
-    pub script: u16,
-    pub place: usize,
-}
 
 /// Files that break no rule. Scripts are numbered in order of file and object behind those of the prelude,
 /// which are Debug, Utility, Scene, Form, Quest and ObjectReference.
@@ -121,14 +35,15 @@ impl Model for Loaded {
 
 impl Loaded {
     ghost use Rattle.core_tree.specs.declared.outline.OutlineScript.{OutlineScript};
-    ghost use Rattle.pex_verify.specs.Sets.{IsSoundSet};
-    ghost use Rattle.pex_verify.specs.Soundness.{bounds_with, IsSoundScript};
+    ghost use Rattle.pex_verify.specs.Coded.{IsCodedScript};
+    ghost use Rattle.pex_verify.specs.Sets.{AreSoundOutlines};
+    ghost use Rattle.pex_verify.specs.Soundness.{bounds_with};
     ghost use Rattle.pex_verify.specs.Whole.{IsWholeSet};
 
     /// The members of the scripts without their code.
     pub fn outline(&self) -> &Outline
         ensures outline { result.now.scripts.items ≡ self.now.outline }
-        ensures sound { IsSoundSet self.now }
+        ensures sound { AreSoundOutlines (length self.now.scripts) self.now.outline }
         ensures whole { IsWholeSet self.now }
     {
         &self.outline
@@ -146,7 +61,7 @@ impl Loaded {
     pub fn script(&self, n: u16) -> &LoadedScript
         requires { n < length self.now.scripts }
         ensures script { result.now ≡ slice_index_or self.now.scripts n result.now }
-        ensures sound { (o : OutlineScript) → IsSoundScript (bounds_with (length self.now.scripts) (vec_len (slice_index_or self.now.outline n o).variables)) result.now }
+        ensures sound { (o : OutlineScript) → IsCodedScript (bounds_with (length self.now.scripts) (vec_len (slice_index_or self.now.outline n o).variables)) result.now }
     {
         &self.scripts[usize::from(n)]
     }

@@ -18,7 +18,7 @@ ghost use Rattle.pex_verify.specs.Variables.{variable_type, type_of_variable};
 use crate::accessors::load_property;
 use crate::fault::{Judged, Valid, VerifyRule, check, refused};
 use crate::function::{has_too_many_slots, known_type, load_function};
-use crate::loaded::{LoadedFunction, LoadedProperty, LoadedScript};
+use crate::judged::{JudgedFunction, JudgedProperty, JudgedScript};
 use crate::outlining::outline_script;
 use crate::scope::{Home, NamedList, SlotList};
 use crate::scripts::{KIND_BITS, SetHeads, Signature};
@@ -32,7 +32,7 @@ use std::alloc::Global;
 use std::collections::HashMap;
 
 // The functions of a state.
-type Functions = Vec<LoadedFunction>;
+type Functions = Vec<JudgedFunction>;
 
 // A state by its name.
 type StateFunctions = (Name, Functions);
@@ -69,7 +69,7 @@ impl ObjectLists {
 /// An object's script, and its outline.
 #[derive(Drop)]
 pub(crate) struct LoadedObject {
-    pub(crate) script: LoadedScript,
+    pub(crate) script: JudgedScript,
     pub(crate) outline: OutlineScript,
 }
 
@@ -110,7 +110,7 @@ fn load_script(home: &Home<'_>, slots: &mut SlotList) -> Valid<LoadedObject>
 {
     let properties = load_properties(home, slots)?;
     let states = load_states(home, slots)?;
-    let script = LoadedScript { properties, states };
+    let script = JudgedScript { properties, states };
     let outline = outline_script(home, &script)?;
     Ok(LoadedObject { script, outline })
 }
@@ -189,7 +189,7 @@ fn start_value(alloc: Global, source: &SetFile<'_>, kind: CoreType, datum: Datum
     }
 }
 
-fn load_properties(home: &Home<'_>, slots: &mut SlotList) -> Valid<Vec<LoadedProperty>>
+fn load_properties(home: &Home<'_>, slots: &mut SlotList) -> Valid<Vec<JudgedProperty>>
     ensures sound { IfOk result (λ properties. All (IsSoundProperty (bounds_of home.now)) properties.items) }
     ensures written { IfOk result (λ properties. AreProperties home.now properties.items) }
 {
@@ -311,7 +311,7 @@ fn load_state_function(
     name: u16,
     function: &PexFunction,
     is_new: bool,
-) -> Judged<LoadedFunction>
+) -> Judged<JudgedFunction>
     ensures sound { IfOk result (IsSoundFunction (bounds_of home.now)) }
     ensures written { IfOk result (IsWritten (site_of home.now) (own_written home.now (name, function.now))) }
     ensures replaces { OnOk result (Replaces home.now state (name, function.now)) }
@@ -420,7 +420,7 @@ fn load_member(
     home: &Home<'_>,
     slots: &mut SlotList,
     member: &(u16, PexFunction),
-) -> Valid<LoadedFunction>
+) -> Valid<JudgedFunction>
     ensures sound { IfOk result (IsSoundFunction (bounds_of home.now)) }
     ensures written { IfOk result (IsWritten (site_of home.now) (written_member home.now member.now)) }
 {

@@ -6,10 +6,11 @@ ghost use Rattle.pex_verify.specs.Places.{IsFoundAmong};
 ghost use Rattle.pex_verify.specs.Judgement.{IsFor, Takes, type_by};
 ghost use Rattle.pex_verify.specs.Meanings.{element_type};
 ghost use Rattle.pex_verify.specs.Accepted as accepted;
+ghost use Rattle.pex_verify.specs.Soundness.{IsSize};
 
 use crate::action::Action;
 use crate::fault::VerifyRule;
-use crate::loaded::Operand;
+use crate::judged::JudgedOperand;
 use crate::scope::FunctionScope;
 use crate::scripts::{CalledFunction, PropertySignature, SetHeads, Signature};
 use crate::value_type::{BOOL, INT, ValueType};
@@ -100,7 +101,7 @@ pub(crate) fn look_up<'a>(
     scope: &FunctionScope<'a>,
     action: Action,
     data: &[Datum],
-    fixed: &[Operand],
+    fixed: &[JudgedOperand],
 ) -> Lookup<'a>
     ensures among { IsFoundAmong (vec_len scope.now.home.now.set.now.heads) result }
     ensures looked { sought.LooksUp scope.now action «data».now fixed.now result }
@@ -119,7 +120,7 @@ pub(crate) fn look_up<'a>(
 }
 
 // The script of the object that is the second operand.
-fn object_script(scope: &FunctionScope<'_>, fixed: &[Operand]) -> Option<usize>
+fn object_script(scope: &FunctionScope<'_>, fixed: &[JudgedOperand]) -> Option<usize>
     ensures { result ≡ sought.object_by scope.now fixed.now }
 {
     scope.type_of(fixed.get(1)?).script().map(usize::from)
@@ -166,8 +167,8 @@ const ARRAY_LIMIT: i32 = 128;
 pub(crate) fn operands_fit(
     scope: &FunctionScope<'_>,
     action: Action,
-    fixed: &[Operand],
-    more: &[Operand],
+    fixed: &[JudgedOperand],
+    more: &[JudgedOperand],
     found: Lookup<'_>,
 ) -> bool
     ensures { IsTrue result → accepted.OperandsFit scope.now action fixed.now more.now found.entry }
@@ -188,7 +189,7 @@ pub(crate) fn operands_fit(
 }
 
 // The same of an action that looks nothing up.
-fn values_fit(scope: &FunctionScope<'_>, action: Action, fixed: &[Operand]) -> bool
+fn values_fit(scope: &FunctionScope<'_>, action: Action, fixed: &[JudgedOperand]) -> bool
     ensures { IsTrue result → accepted.ValuesFit scope.now action fixed.now }
 {
     match (action, fixed) {
@@ -208,7 +209,7 @@ fn values_fit(scope: &FunctionScope<'_>, action: Action, fixed: &[Operand]) -> b
         (Action::Cast, [to, value]) => scope.takes_cast(to, scope.type_of(value)),
         (Action::Equal, [to, left, right]) => scope.takes(to, BOOL) && compare(scope, left, right),
         (Action::Jump, [offset]) | (Action::JumpIf, [_, offset]) => {
-            matches!(offset, Operand::Int(_))
+            matches!(offset, JudgedOperand::Int(_))
         }
         (Action::Return, [value]) => scope.fits(value, scope.answer),
         _ => elements_fit(scope, action, fixed),
@@ -216,7 +217,7 @@ fn values_fit(scope: &FunctionScope<'_>, action: Action, fixed: &[Operand]) -> b
 }
 
 // The same of an action on an array.
-fn elements_fit(scope: &FunctionScope<'_>, action: Action, fixed: &[Operand]) -> bool
+fn elements_fit(scope: &FunctionScope<'_>, action: Action, fixed: &[JudgedOperand]) -> bool
     ensures { IsTrue result → accepted.ElementsFit scope.now action fixed.now }
 {
     match (action, fixed) {
@@ -236,18 +237,18 @@ fn elements_fit(scope: &FunctionScope<'_>, action: Action, fixed: &[Operand]) ->
 }
 
 // Whether the operand is a name that stands for itself.
-fn is_name(operand: &Operand) -> bool {
-    matches!(operand, Operand::Word(_))
+fn is_name(operand: &JudgedOperand) -> bool {
+    matches!(operand, JudgedOperand::Word(_))
 }
 
 // Whether the operand is a number of elements that stands in the code.
-fn is_size(operand: &Operand) -> bool
-    ensures { IsTrue result → accepted.IsSize operand.now }
+fn is_size(operand: &JudgedOperand) -> bool
+    ensures { IsTrue result → IsSize operand.now }
 {
-    matches!(operand, Operand::Int(size) if 1 <= *size && *size <= ARRAY_LIMIT)
+    matches!(operand, JudgedOperand::Int(size) if 1 <= *size && *size <= ARRAY_LIMIT)
 }
 
-fn is_object(scope: &FunctionScope<'_>, operand: &Operand) -> bool
+fn is_object(scope: &FunctionScope<'_>, operand: &JudgedOperand) -> bool
     ensures { IsTrue result → accepted.IsObject scope.now operand.now }
 {
     scope.type_of(operand).script().is_some()
@@ -256,9 +257,9 @@ fn is_object(scope: &FunctionScope<'_>, operand: &Operand) -> bool
 // Whether two values of a type give one of another, which can be stored.
 fn computes(
     scope: &FunctionScope<'_>,
-    to: &Operand,
-    left: &Operand,
-    right: &Operand,
+    to: &JudgedOperand,
+    left: &JudgedOperand,
+    right: &JudgedOperand,
     taken: CoreType,
     given: CoreType,
 ) -> bool
@@ -270,26 +271,26 @@ fn computes(
 }
 
 // Whether one of the two values fits the other's type.
-fn compare(scope: &FunctionScope<'_>, left: &Operand, right: &Operand) -> bool
+fn compare(scope: &FunctionScope<'_>, left: &JudgedOperand, right: &JudgedOperand) -> bool
     ensures { IsTrue result → accepted.Compare scope.now left.now right.now }
 {
     scope.fits(left, scope.type_of(right)) || scope.fits(right, scope.type_of(left))
 }
 
 // The type of the elements, where the operand is an array.
-fn element(scope: &FunctionScope<'_>, array: &Operand) -> Option<ValueType>
+fn element(scope: &FunctionScope<'_>, array: &JudgedOperand) -> Option<ValueType>
     ensures { result ≡ element_type (type_by scope.now array.now) }
 {
     scope.type_of(array).element()
 }
 
-fn is_array(scope: &FunctionScope<'_>, operand: &Operand) -> bool
+fn is_array(scope: &FunctionScope<'_>, operand: &JudgedOperand) -> bool
     ensures { IsTrue result → accepted.IsArray scope.now operand.now }
 {
     element(scope, operand).is_some()
 }
 
-fn takes_element(scope: &FunctionScope<'_>, to: &Operand, array: &Operand) -> bool
+fn takes_element(scope: &FunctionScope<'_>, to: &JudgedOperand, array: &JudgedOperand) -> bool
     ensures { IsTrue result → accepted.IsArrayWith scope.now array.now (λ element. Takes scope.now to.now element) }
 {
     match element(scope, array) {
@@ -298,7 +299,7 @@ fn takes_element(scope: &FunctionScope<'_>, to: &Operand, array: &Operand) -> bo
     }
 }
 
-fn fits_element(scope: &FunctionScope<'_>, array: &Operand, value: &Operand) -> bool
+fn fits_element(scope: &FunctionScope<'_>, array: &JudgedOperand, value: &JudgedOperand) -> bool
     ensures { IsTrue result → accepted.IsArrayWith scope.now array.now (λ element. IsFor scope.now element value.now) }
 {
     match element(scope, array) {
@@ -309,7 +310,7 @@ fn fits_element(scope: &FunctionScope<'_>, array: &Operand, value: &Operand) -> 
 
 // Whether the result and the arguments are of the types of what was found. Where nothing was, the result has to be
 // something that a value can be stored in.
-fn takes_found(scope: &FunctionScope<'_>, to: &Operand, more: &[Operand], found: Lookup<'_>) -> bool
+fn takes_found(scope: &FunctionScope<'_>, to: &JudgedOperand, more: &[JudgedOperand], found: Lookup<'_>) -> bool
     ensures { IsTrue result → accepted.TakesFound scope.now to.now more.now found.entry }
 {
     match found.type_in(scope.home.set) {
@@ -318,7 +319,7 @@ fn takes_found(scope: &FunctionScope<'_>, to: &Operand, more: &[Operand], found:
     }
 }
 
-fn fits_found(scope: &FunctionScope<'_>, value: &Operand, found: Lookup<'_>) -> bool
+fn fits_found(scope: &FunctionScope<'_>, value: &JudgedOperand, found: Lookup<'_>) -> bool
     ensures { IsTrue result → accepted.FitsFound scope.now value.now found.entry }
 {
     match found.type_in(scope.home.set) {
@@ -328,7 +329,7 @@ fn fits_found(scope: &FunctionScope<'_>, value: &Operand, found: Lookup<'_>) -> 
 }
 
 // Whether each argument fits the type of its parameter, where there is one for it.
-fn fit_parameters(scope: &FunctionScope<'_>, more: &[Operand], found: Lookup<'_>) -> bool
+fn fit_parameters(scope: &FunctionScope<'_>, more: &[JudgedOperand], found: Lookup<'_>) -> bool
     ensures { IsTrue result → accepted.ArgumentsFit scope.now more.now found.entry }
 {
     match found {
@@ -337,7 +338,7 @@ fn fit_parameters(scope: &FunctionScope<'_>, more: &[Operand], found: Lookup<'_>
     }
 }
 
-fn each_fits(scope: &FunctionScope<'_>, kinds: &[usize], arguments: &[Operand]) -> bool
+fn each_fits(scope: &FunctionScope<'_>, kinds: &[usize], arguments: &[JudgedOperand]) -> bool
     ensures { IsTrue result → accepted.EachFits scope.now kinds.now arguments.now }
 {
     for (place, argument) in arguments.iter().enumerate() {
@@ -348,7 +349,7 @@ fn each_fits(scope: &FunctionScope<'_>, kinds: &[usize], arguments: &[Operand]) 
     true
 }
 
-fn parameter_fits(scope: &FunctionScope<'_>, kind: Option<&usize>, argument: &Operand) -> bool
+fn parameter_fits(scope: &FunctionScope<'_>, kind: Option<&usize>, argument: &JudgedOperand) -> bool
     ensures { IsTrue result → accepted.ParameterFits scope.now (option_copied kind.entry) argument.now }
 {
     match kind {

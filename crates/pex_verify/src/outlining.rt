@@ -6,7 +6,7 @@ ghost use Rattle.pex_verify.specs.Places.{bounds_of};
 ghost use Rattle.pex_verify.specs.Types.{IsTypeAmong};
 ghost use Rattle.pex_verify.specs.Soundness.{IsSoundFunction, AreSoundFunctions, IsSoundProperty, IsSoundScript, AreTyped, IsOutlineProperty, IsOutlineFunction, IsSoundOutline};
 
-use crate::loaded::{LoadedFunction, LoadedProperty, LoadedScript};
+use crate::judged::{JudgedFunction, JudgedProperty, JudgedScript};
 use crate::scope::Home;
 use crate::sources::SetFile;
 use core_tree::{CoreType, OutlineFunction, OutlineProperty, OutlineScript, OutlineVariable};
@@ -14,7 +14,7 @@ use papy_base::{Made, Name};
 use std::alloc::Global;
 
 /// A script's name, parent, auto state, variables, auto properties and functions of the empty state.
-pub(crate) fn outline_script(home: &Home<'_>, script: &LoadedScript) -> Made<OutlineScript>
+pub(crate) fn outline_script(home: &Home<'_>, script: &JudgedScript) -> Made<OutlineScript>
     requires sound { IsSoundScript (bounds_of home.now) script.now }
     requires typed { AreTyped (vec_len home.now.set.now.heads) home.now.variables.now.list.items }
     ensures count { IfOk result (λ outline. vec_len outline.variables ≡ vec_len home.now.variables.now.list) }
@@ -58,7 +58,7 @@ fn outline_variables(home: &Home<'_>) -> Made<Vec<OutlineVariable>>
     Ok(found)
 }
 
-fn outline_properties(home: &Home<'_>, properties: &[LoadedProperty]) -> Made<Vec<OutlineProperty>>
+fn outline_properties(home: &Home<'_>, properties: &[JudgedProperty]) -> Made<Vec<OutlineProperty>>
     requires { All (IsSoundProperty (bounds_of home.now)) properties.now }
     ensures { IfOk result (λ found. All (IsOutlineProperty (bounds_of home.now)) found.items) }
 {
@@ -77,7 +77,7 @@ fn outline_properties(home: &Home<'_>, properties: &[LoadedProperty]) -> Made<Ve
 }
 
 // The functions of the state without name.
-fn empty_state<'a>(home: &Home<'_>, script: &'a LoadedScript) -> &'a [LoadedFunction]
+fn empty_state<'a>(home: &Home<'_>, script: &'a JudgedScript) -> &'a [JudgedFunction]
     requires { IsSoundScript (bounds_of home.now) script.now }
     ensures sound { AreSoundFunctions (bounds_of home.now) result.now }
     ensures first { result.now ≡ functions_without_state script.now.states.items }
@@ -90,7 +90,7 @@ fn empty_state<'a>(home: &Home<'_>, script: &'a LoadedScript) -> &'a [LoadedFunc
     &[]
 }
 
-fn outline_functions(home: &Home<'_>, functions: &[LoadedFunction]) -> Made<Vec<OutlineFunction>>
+fn outline_functions(home: &Home<'_>, functions: &[JudgedFunction]) -> Made<Vec<OutlineFunction>>
     requires { AreSoundFunctions (bounds_of home.now) functions.now }
     ensures sound { IfOk result (λ found. All (IsOutlineFunction (vec_len home.now.set.now.heads)) found.items) }
     ensures shapes { IfOk result (λ found. map function_shape found.items ≡ map loaded_shape functions.now) }
@@ -102,7 +102,7 @@ fn outline_functions(home: &Home<'_>, functions: &[LoadedFunction]) -> Made<Vec<
     Ok(found)
 }
 
-fn outline_function(home: &Home<'_>, function: &LoadedFunction) -> Made<OutlineFunction>
+fn outline_function(home: &Home<'_>, function: &JudgedFunction) -> Made<OutlineFunction>
     requires { IsSoundFunction (bounds_of home.now) function.now }
     ensures sound { IfOk result (IsOutlineFunction (vec_len home.now.set.now.heads)) }
     ensures shape { IfOk result (λ outline. function_shape outline ≡ loaded_shape function.now) }
@@ -116,7 +116,7 @@ fn outline_function(home: &Home<'_>, function: &LoadedFunction) -> Made<OutlineF
     })
 }
 
-fn outline_parameters(home: &Home<'_>, function: &LoadedFunction) -> Made<Vec<CoreType>>
+fn outline_parameters(home: &Home<'_>, function: &JudgedFunction) -> Made<Vec<CoreType>>
     requires { IsSoundFunction (bounds_of home.now) function.now }
     ensures sound { IfOk result (λ parameters. All (IsTypeAmong (vec_len home.now.set.now.heads)) parameters.items) }
     ensures kinds { IfOk result (λ parameters. parameters.items ≡ map (λ p. p.1) function.now.parameters.items) }

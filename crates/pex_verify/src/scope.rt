@@ -5,7 +5,7 @@ ghost use Rattle.pex_verify.specs.Soundness.{IsIdentifier};
 ghost use Rattle.pex_verify.specs.declared.value_type.ValueType.TheVariants.{Unknown};
 
 use crate::fault::{Refusal, VerifyFault};
-use crate::loaded::Operand;
+use crate::judged::JudgedOperand;
 use crate::scripts::SetHeads;
 use crate::sources::{DefaultMembers, FileLines, SetFile};
 use crate::value_type::{BOOL, INT, TEXT, ValueType};
@@ -111,42 +111,42 @@ pub(crate) struct FunctionScope<'a> {
 impl FunctionScope<'_> {
     /// What the name of this number means where it is read or written: the first of a parameter or local, a variable
     /// of the script, the instance, and its state that has the name. Global functions see the first alone.
-    pub(crate) fn meaning(&self, name: usize) -> Option<Operand>
+    pub(crate) fn meaning(&self, name: usize) -> Option<JudgedOperand>
         ensures meant { IfSome result (IsIdentifier (vec_len self.now.slots.now.list) (vec_len self.now.home.now.variables.now.list)) }
         ensures seen { IfSome result (IsSeenIn self.now.is_global) }
     {
         if let Some(place) = self.slots.place(name) {
-            return Some(Operand::Slot(place));
+            return Some(JudgedOperand::Slot(place));
         }
         if self.is_global {
             return None;
         }
         if let Some(place) = self.home.variables.place(name) {
-            return Some(Operand::Variable(place));
+            return Some(JudgedOperand::Variable(place));
         }
         let set = self.home.set;
         if Some(name) == set.instance_word {
-            Some(Operand::Instance)
+            Some(JudgedOperand::Instance)
         } else if Some(name) == set.state_word {
-            Some(Operand::State)
+            Some(JudgedOperand::State)
         } else {
             None
         }
     }
 
     /// What an operand's value is. A name that stands for itself has none.
-    pub(crate) fn type_of(&self, operand: &Operand) -> ValueType
+    pub(crate) fn type_of(&self, operand: &JudgedOperand) -> ValueType
         ensures { result ≡ type_by self.now operand.now }
     {
         match operand {
-            Operand::NoneValue => ValueType::Nothing,
-            Operand::Word(_) => ValueType::Unknown,
-            Operand::Quoted(_) | Operand::State => TEXT,
-            Operand::Int(_) => INT,
-            Operand::Bool(_) => BOOL,
-            Operand::Slot(place) => self.slot_type(*place),
-            Operand::Variable(place) => self.variable_type(*place),
-            Operand::Instance => ValueType::Of(CoreType::Script(self.home.here)),
+            JudgedOperand::NoneValue => ValueType::Nothing,
+            JudgedOperand::Word(_) => ValueType::Unknown,
+            JudgedOperand::Quoted(_) | JudgedOperand::State => TEXT,
+            JudgedOperand::Int(_) => INT,
+            JudgedOperand::Bool(_) => BOOL,
+            JudgedOperand::Slot(place) => self.slot_type(*place),
+            JudgedOperand::Variable(place) => self.variable_type(*place),
+            JudgedOperand::Instance => ValueType::Of(CoreType::Script(self.home.here)),
         }
     }
 
@@ -168,31 +168,31 @@ impl FunctionScope<'_> {
 
     /// The type of what can be stored in an operand, none where it isn't a parameter, a local, a variable or
     /// the state.
-    pub(crate) fn stored_type(&self, operand: &Operand) -> Option<ValueType>
+    pub(crate) fn stored_type(&self, operand: &JudgedOperand) -> Option<ValueType>
         ensures { result ≡ stored_by self.now operand.now }
     {
         match operand {
-            Operand::Slot(_) | Operand::Variable(_) | Operand::State => Some(self.type_of(operand)),
+            JudgedOperand::Slot(_) | JudgedOperand::Variable(_) | JudgedOperand::State => Some(self.type_of(operand)),
             _ => None,
         }
     }
 
     /// Whether the operand is a value of exactly this type.
-    pub(crate) fn is_of(&self, operand: &Operand, wanted: ValueType) -> bool
+    pub(crate) fn is_of(&self, operand: &JudgedOperand, wanted: ValueType) -> bool
         ensures { IsTrue result → type_by self.now operand.now ≡ wanted }
     {
         self.type_of(operand) == wanted
     }
 
     /// Whether the operand's value fits this type.
-    pub(crate) fn fits(&self, operand: &Operand, wanted: ValueType) -> bool
+    pub(crate) fn fits(&self, operand: &JudgedOperand, wanted: ValueType) -> bool
         ensures { IsTrue result → IsFor self.now wanted operand.now }
     {
         self.home.set.fits(self.type_of(operand), wanted)
     }
 
     /// Whether a value of this type can be stored in the operand. What has the type None takes any value.
-    pub(crate) fn takes(&self, to: &Operand, value: ValueType) -> bool
+    pub(crate) fn takes(&self, to: &JudgedOperand, value: ValueType) -> bool
         ensures { IsTrue result → Takes self.now to.now value }
     {
         match self.stored_type(to) {
@@ -203,7 +203,7 @@ impl FunctionScope<'_> {
     }
 
     /// The same of a value that is cast to the operand's type.
-    pub(crate) fn takes_cast(&self, to: &Operand, value: ValueType) -> bool
+    pub(crate) fn takes_cast(&self, to: &JudgedOperand, value: ValueType) -> bool
         ensures { IsTrue result → TakesCast self.now to.now value }
     {
         match self.stored_type(to) {

@@ -1,5 +1,5 @@
 // Sets of files, in the order in which their rules are judged.
-ghost use Rattle.std.specs.Prelude.{◌≡◌, ◌+◌, ◌<◌, ℕ, List, [], ◌∷◌, ◌++◌, Some, length, vec_len, All, IfOk, OnOk, false, None};
+ghost use Rattle.std.specs.Prelude.{◌≡◌, ◌+◌, ◌<◌, ℕ, List, [], ◌∷◌, ◌++◌, map, Some, length, vec_len, All, IfOk, OnOk, false, None};
 ghost use Rattle.pex_verify.specs.Files.{IsFile};
 ghost use Rattle.pex_verify.specs.Sources.{object_count, script_count};
 ghost use Rattle.pex_verify.specs.Sets.{AreSoundScripts};
@@ -13,9 +13,15 @@ ghost use Rattle.pex_verify.specs.Tables.{IsTable};
 ghost use Rattle.pex_verify.specs.Types.{IsValueTypeAmong};
 ghost use Rattle.pex_verify.specs.Loading.{judged_by, AreObjects, IsLoadedSet};
 ghost use Rattle.pex_verify.specs.Whole.{IsJudged};
+ghost use Rattle.pex_verify.specs.Coding.{CodesScript};
+ghost use Rattle.pex_verify.specs.Naming.{NameScripts};
+ghost use Rattle.core_tree.specs.Outlines.{script_shape};
+ghost use Rattle.std.specs.List.{AllZip};
 
+use crate::coded::{ScriptNames, coded_scripts};
 use crate::fault::{Site, Valid, VerifyFault, VerifyRule};
-use crate::loaded::{Loaded, LoadedScript};
+use crate::judged::JudgedScript;
+use crate::loaded::Loaded;
 use crate::members::MemberTable;
 use crate::object::{Loader, ObjectLists, load_object};
 use crate::scripts::SetHeads;
@@ -24,7 +30,8 @@ use crate::sources::{
     strings_of_files,
 };
 use core_tree::{Outline, OutlineScript};
-use papy_base::{LIBRARY_COUNT, on_circles};
+use loaded_code::LoadedScript;
+use papy_base::{LIBRARY_COUNT, Made, on_circles};
 use pex_set::{EMPTY_NAME, NameNumbers, Objects, Prelude, text_at};
 use pex_values::{Pex, PexObject};
 use std::alloc::Global;
@@ -44,14 +51,49 @@ pub fn verify(alloc: Global, files: Vec<Pex>) -> Result<Loaded, VerifyFault>
 {
     let mut table = NameNumbers::new(alloc)?;
     let tables = load_all(alloc, &mut table, files.as_slice())?;
+    let coded = coded_tables(alloc, &table, tables)?;
     Ok(Loaded {
         outline: Outline {
-            scripts: tables.parts.outlines,
+            scripts: coded.outlines,
         },
         files,
-        scripts: tables.parts.scripts,
+        scripts: coded.scripts,
         table,
-        members: tables.members,
+        members: coded.members,
+    })
+}
+
+// Scripts as loaded code, with their outlines, and with what each has from itself upward.
+#[derive(Drop)]
+struct CodedTables {
+    outlines: Vec<OutlineScript>,
+    scripts: Vec<LoadedScript>,
+    members: MemberTable,
+}
+
+fn coded_tables(alloc: Global, table: &NameNumbers, tables: Tables) -> Made<CodedTables>
+    requires { NameScripts table.now tables.objects tables.parts.outlines.items }
+    ensures count { IfOk result (λ coded. vec_len coded.scripts ≡ vec_len tables.parts.scripts) }
+    ensures outlines { IfOk result (λ coded. coded.outlines.items ≡ tables.parts.outlines.items) }
+    ensures scripts { IfOk result (λ coded. AllZip (CodesScript (map script_shape tables.parts.outlines.items)) tables.parts.scripts.items coded.scripts.items) }
+{
+    let Tables {
+        parts,
+        objects,
+        members,
+    } = tables;
+    let Parts { outlines, scripts } = parts;
+    let names = ScriptNames {
+        alloc,
+        names: table,
+        objects: &objects,
+        outline: outlines.as_slice(),
+    };
+    let scripts = coded_scripts(&names, scripts)?;
+    Ok(CodedTables {
+        outlines,
+        scripts,
+        members,
     })
 }
 
@@ -59,13 +101,14 @@ pub fn verify(alloc: Global, files: Vec<Pex>) -> Result<Loaded, VerifyFault>
 #[derive(Drop)]
 pub(crate) struct Parts {
     outlines: Vec<OutlineScript>,
-    scripts: Vec<LoadedScript>,
+    scripts: Vec<JudgedScript>,
 }
 
-// The parts of a set, with what each script has from itself upward.
+// The parts of a set, with its objects by name and with what each script has from itself upward.
 #[derive(Drop)]
 struct Tables {
     parts: Parts,
+    objects: Objects,
     members: MemberTable,
 }
 
@@ -76,6 +119,7 @@ fn load_all(alloc: Global, table: &mut NameNumbers, files: &[Pex]) -> Valid<Tabl
     ensures count { IfOk result (λ tables. vec_len tables.parts.scripts ≡ script_count files.now) }
     ensures sound { IfOk result (λ tables. AreSoundScripts (vec_len tables.parts.scripts) tables.parts.outlines.items tables.parts.scripts.items) }
     ensures judged { IfOk result (λ tables. IsJudged files.now tables.parts.scripts.items tables.parts.outlines.items) }
+    ensures named { IfOk result (λ tables. NameScripts table.new tables.objects tables.parts.outlines.items) }
 {
     let prelude = Prelude::new(alloc)?;
     load_behind(alloc, table, &prelude, files)
@@ -95,6 +139,7 @@ fn load_behind(
     ensures count { IfOk result (λ tables. vec_len tables.parts.scripts ≡ script_count files.now) }
     ensures sound { IfOk result (λ tables. AreSoundScripts (vec_len tables.parts.scripts) tables.parts.outlines.items tables.parts.scripts.items) }
     ensures judged { IfOk result (λ tables. IsJudged files.now tables.parts.scripts.items tables.parts.outlines.items) }
+    ensures named { IfOk result (λ tables. NameScripts table.new tables.objects tables.parts.outlines.items) }
 {
     let prelude_strings = FileStrings::of(alloc, table, prelude.file.strings.as_slice())?;
     let strings = strings_of_files(alloc, table, files)?;
@@ -119,6 +164,7 @@ fn load_set(
     ensures count { IfOk result (λ tables. vec_len tables.parts.scripts ≡ object_count sources.now) }
     ensures sound { IfOk result (λ tables. AreSoundScripts (vec_len tables.parts.scripts) tables.parts.outlines.items tables.parts.scripts.items) }
     ensures loaded { IfOk result (λ tables. IsLoadedSet members.now sources.now tables.parts.scripts.items tables.parts.outlines.items tables.members) }
+    ensures numbered { IfOk result (λ tables. AreNumbered (placed_objects sources.now) tables.objects) }
     ensures empty { OnOk result (number_in table.now [] ≡ Some empty_name) }
 {
     let set = judged_scripts(alloc, table, files, members, sources)?;
@@ -131,6 +177,7 @@ fn load_set(
     let parts = load_files(&loader, &mut lists, sources)?;
     Ok(Tables {
         parts,
+        objects: set.objects,
         members: set.table,
     })
 }

@@ -1,6 +1,6 @@
 use Rattle.std.proofs.Common.{List, ◌++◌, map, refl, sym, ap, ◌∙◌, vec_len, rules}
 use Rattle.pex_verify.specs.declared.value_type.ValueType.{ValueType}
-use Rattle.pex_verify.specs.declared.loaded.LoadedFunction.{LoadedFunction}
+use Rattle.pex_verify.specs.declared.judged.JudgedFunction.{JudgedFunction}
 use Rattle.pex_verify.specs.Signatures.{has_bit}
 use Rattle.pex_verify.specs.Matching.{parameter_type, parameter_types, local_type, local_types}
 use Rattle.pex_verify.proofs.Standing.{code_is_typed}
@@ -18,7 +18,7 @@ returns-clause-sound c = record {
 pub returns-clause-written : goal.returns-clause-written
 returns-clause-written c =
     let bits = c.args.function.now.bits in
-    let loaded : LoadedFunction = record {
+    let loaded : JudgedFunction = record {
       name = c.in_ok-title.field-0;
       result = c.in_ok-result.result;
       is_global = has_bit bits 1;

@@ -2,7 +2,7 @@ use Rattle.std.proofs.Common.{◌≡◌, ℕ, ◌<◌, List, length, get_or, vec
 use Rattle.std.proofs.lemmas.List.{get_or_default}
 use Rattle.pex_values.specs.declared.values.Datum.{Datum}
 use Rattle.pex_verify.specs.declared.action.Use.{Use}
-use Rattle.pex_verify.specs.declared.loaded.Operand.{Operand}
+use Rattle.pex_verify.specs.declared.judged.JudgedOperand.{JudgedOperand as Operand}
 use Rattle.pex_verify.specs.declared.scope.FunctionScope.{FunctionScope}
 use Rattle.pex_verify.specs.Found.{IsTold}
 use Rattle.pex_verify.specs.Soundness.{IsResolved}

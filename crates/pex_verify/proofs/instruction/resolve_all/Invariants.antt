@@ -1,7 +1,7 @@
 use Rattle.std.proofs.Common.{◌≡◌, ℕ, ◌<◌, ◌≤◌, length, vec_len, vec_capacity}
 use Rattle.std.specs.Prelude.{slice_index_or}
 use Rattle.pex_values.specs.declared.values.Datum.{Datum}
-use Rattle.pex_verify.specs.declared.loaded.Operand.{Operand}
+use Rattle.pex_verify.specs.declared.judged.JudgedOperand.{JudgedOperand as Operand}
 use Rattle.pex_verify.specs.Found.{IsTold}
 use Rattle.pex_verify.specs.Soundness.{AreResolved}
 use Rattle.pex_verify.specs.Uses.{use_at}

@@ -4,7 +4,7 @@ use Rattle.std.proofs.lemmas.List.{append-nil}
 use Rattle.std.proofs.lemmas.Option.{slice_get-get_or, slice_get_past}
 use Rattle.pex_values.specs.declared.values.PexFunction.{PexFunction}
 use Rattle.pex_verify.specs.Sites.{site_of}
-use Rattle.pex_verify.specs.declared.loaded.LoadedFunction.{LoadedFunction}
+use Rattle.pex_verify.specs.declared.judged.JudgedFunction.{JudgedFunction}
 use Rattle.pex_verify.specs.Matching.{Written, IsWritten, AreWritten}
 use Rattle.pex_verify.specs.Places.{bounds_of}
 use Rattle.pex_verify.specs.Soundness.{IsSoundFunction}
@@ -35,7 +35,7 @@ returns-clause-written c = λ before given.
     let within : place < length list = omega (arith, c.in-Some.ensures.lookup.3.0) in
     let at : member ≡ get_or list place member = c.in-Some.ensures.lookup.1 in
     let found : slice_get list place ≡ Some member = slice_get-get_or list place member within ∙ ap Some (sym at) in
-    let IsLoaded : ℕ → Written → LoadedFunction → Type 0 = λ n w f. IsWritten site w f in
-    let pushed = Paired-push Written LoadedFunction IsLoaded before c.args.functions.now.items (written_member home member) c.in_ok-load_member.field-0 given c.in_ok-load_member.ensures.written in
+    let IsLoaded : ℕ → Written → JudgedFunction → Type 0 = λ n w f. IsWritten site w f in
+    let pushed = Paired-push Written JudgedFunction IsLoaded before c.args.functions.now.items (written_member home member) c.in_ok-load_member.field-0 given c.in_ok-load_member.ensures.written in
     subst (λ (l : List Written). AreWritten site l c.push.new.self.items) (ap (λ (o : Option (ℕ × PexFunction)). before ++ member_written home o) (sym found))
-    (subst (λ (l : List LoadedFunction). AreWritten site (before ++ written_member home member ∷ []) l) (sym {A = List LoadedFunction} c.in_ok-push.ensures.items) pushed)
+    (subst (λ (l : List JudgedFunction). AreWritten site (before ++ written_member home member ∷ []) l) (sym {A = List JudgedFunction} c.in_ok-push.ensures.items) pushed)

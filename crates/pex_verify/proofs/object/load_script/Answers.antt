@@ -1,12 +1,12 @@
 use Rattle.std.proofs.Common.{ℕ, vec_len, refl, sym, subst}
-use Rattle.pex_verify.specs.declared.loaded.LoadedScript.{LoadedScript}
+use Rattle.pex_verify.specs.declared.judged.JudgedScript.{JudgedScript}
 use Rattle.pex_verify.specs.Soundness.{bounds_with, IsSoundScript}
 use Rattle.pex_verify.proofs.object.load_script.Goals as goal
 
 pub returns-clause-sound : goal.returns-clause-sound
 returns-clause-sound c =
     let count = vec_len c.args.home.now.set.now.heads in
-    let script : LoadedScript = record { properties = c.in_ok-properties.properties; states = c.in_ok-states.states } in
+    let script : JudgedScript = record { properties = c.in_ok-properties.properties; states = c.in_ok-states.states } in
     let sound : IsSoundScript (bounds_with count (vec_len c.args.home.now.variables.now.list)) script = record { properties = c.in_ok-properties.ensures.sound; states = c.in_ok-states.ensures.sound } in
     record {
       script = subst (λ (n : ℕ). IsSoundScript (bounds_with count n) script) (sym c.in_ok-outline.ensures.count) sound;

@@ -8,7 +8,7 @@ use Rattle.pex_values.specs.declared.values.PexState.{PexState}
 use Rattle.pex_verify.specs.Rules.{AreDistinct, EachReplaces, state_numbers}
 use Rattle.pex_verify.specs.Signatures.{number_at}
 use Rattle.pex_verify.specs.Sites.{site_of}
-use Rattle.pex_verify.specs.declared.loaded.LoadedFunction.{LoadedFunction}
+use Rattle.pex_verify.specs.declared.judged.JudgedFunction.{JudgedFunction}
 use Rattle.pex_verify.specs.Places.{bounds_of}
 use Rattle.pex_verify.specs.Soundness.{IsSoundState}
 use Rattle.pex_verify.specs.States.{WrittenState, IsState, state_written}
@@ -21,8 +21,8 @@ pub loop-state-preserved : goal.loop-state-preserved
 loop-state-preserved c =
     let home = c.args.home.now in
     let bounds = bounds_of home in
-    let IsSound : Name × Vec LoadedFunction Global → Type 0 = λ state. IsSoundState bounds state.1.items in
-    let IsLoaded : ℕ → WrittenState → Name × Vec LoadedFunction Global → Type 0 = λ n w s. IsState (site_of home) w s in
+    let IsSound : Name × Vec JudgedFunction Global → Type 0 = λ state. IsSoundState bounds state.1.items in
+    let IsLoaded : ℕ → WrittenState → Name × Vec JudgedFunction Global → Type 0 = λ n w s. IsState (site_of home) w s in
     let all = home.object.now.states.items in
     let old = c.loop-state.states.items in
     let i = c.loop-state.state-index in
@@ -39,7 +39,7 @@ loop-state-preserved c =
     let new = new_number numbers before i c.number.result same (c.in_ok-note.ensures.new c.if-not-branch.false) in
     let loaded = c.in_ok-load_state.field-0 in (
       all_grown IsSound old c.push.new.self.items loaded c.in_ok-push.ensures.items c.loop-state.invariant.0 c.in_ok-load_state.ensures.sound,
-      Paired-mapped PexState WrittenState (Name × Vec LoadedFunction Global) IsLoaded (state_written home) all old c.push.new.self.items i item item loaded c.in_ok-push.ensures.items within is c.loop-state.invariant.1 c.in_ok-load_state.ensures.written,
+      Paired-mapped PexState WrittenState (Name × Vec JudgedFunction Global) IsLoaded (state_written home) all old c.push.new.self.items i item item loaded c.in_ok-push.ensures.items within is c.loop-state.invariant.1 c.in_ok-load_state.ensures.written,
       λ k d h. below_more Replaced i (λ j below other. c.loop-state.invariant.2 j other below) here k h d,
       noted_more numbers before after tt i c.number.result same c.in_ok-note.ensures.noted c.loop-state.invariant.3,
       distinct_more numbers (λ n. IsSome (before n)) i c.loop-state.invariant.3 new c.loop-state.invariant.4,

@@ -4,7 +4,7 @@ use Rattle.std.specs.Slice.{IsItemAt}
 use Rattle.std.proofs.lemmas.List.{get_or_read}
 use Rattle.std.proofs.lemmas.Option.{slice_get_past, slice_get_read}
 use borrow.Author.Count.{below_more}
-use Rattle.pex_verify.specs.declared.loaded.Operand.{Operand}
+use Rattle.pex_verify.specs.declared.judged.JudgedOperand.{JudgedOperand as Operand}
 use Rattle.pex_verify.specs.Accepted.{ParameterFits}
 use Rattle.pex_verify.proofs.operand_rules.each_fits.Goals as goal
 

@@ -1,6 +1,6 @@
 use Rattle.std.proofs.Common.{◌<◌, ℕ, List, [], ◌∷◌, ◌++◌, length, vec_len, sym, subst, arith}
 use Rattle.core_tree.specs.declared.outline.OutlineScript.{OutlineScript}
-use Rattle.pex_verify.specs.declared.loaded.LoadedScript.{LoadedScript}
+use Rattle.pex_verify.specs.declared.judged.JudgedScript.{JudgedScript}
 use Rattle.pex_verify.specs.Heads.{Placed, placed}
 use Rattle.pex_verify.specs.Loading.{judged_by, AreObjects, IsWholeObject}
 use Rattle.pex_verify.specs.Sets.{AreSoundScripts, IsSoundPair}
@@ -19,7 +19,7 @@ returns-clause-sound c = λ old.
     let here : IsSoundPair count outline script = record { script = c.in_ok-loaded.ensures.sound.script; outline = c.in_ok-loaded.ensures.sound.outline } in
     let grown = AreSoundScripts-push count outlines scripts outline script old few here in
     subst (λ (os : List OutlineScript). AreSoundScripts count os c.push-2.new.self.items) (sym c.in_ok-push.ensures.items)
-    (subst (λ (ss : List LoadedScript). AreSoundScripts count (outlines ++ outline ∷ []) ss) (sym c.in_ok-push-2.ensures.items) grown)
+    (subst (λ (ss : List JudgedScript). AreSoundScripts count (outlines ++ outline ∷ []) ss) (sym c.in_ok-push-2.ensures.items) grown)
 
 pub returns-clause-objects : goal.returns-clause-objects
 returns-clause-objects c = λ before given.
@@ -32,4 +32,4 @@ returns-clause-objects c = λ before given.
     let loaded : IsWholeObject judged (length scripts) here script outline = subst (λ (n : ℕ). IsWholeObject judged n here script outline) (omega arith) c.in_ok-loaded.ensures.object in
     let grown = AreObjects-push judged before scripts outlines here script outline given loaded in
     subst (λ (os : List OutlineScript). AreObjects judged (before ++ here ∷ []) c.push-2.new.self.items os) (sym c.in_ok-push.ensures.items)
-    (subst (λ (ss : List LoadedScript). AreObjects judged (before ++ here ∷ []) ss (outlines ++ outline ∷ [])) (sym c.in_ok-push-2.ensures.items) grown)
+    (subst (λ (ss : List JudgedScript). AreObjects judged (before ++ here ∷ []) ss (outlines ++ outline ∷ [])) (sym c.in_ok-push-2.ensures.items) grown)

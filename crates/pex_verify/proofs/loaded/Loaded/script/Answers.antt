@@ -1,7 +1,8 @@
 use Rattle.std.proofs.Common.{◌≡◌, ◌<◌, length, vec_len, get_or, sym, subst}
-use Rattle.pex_verify.specs.declared.loaded.LoadedScript.{LoadedScript}
+use Rattle.loaded_code.specs.declared.script.LoadedScript.{LoadedScript}
+use Rattle.pex_verify.specs.Coded.{IsCodedScript}
 use Rattle.pex_verify.specs.Sets.{LoadedSet}
-use Rattle.pex_verify.specs.Soundness.{bounds_with, IsSoundScript}
+use Rattle.pex_verify.specs.Soundness.{bounds_with}
 use Rattle.pex_verify.proofs.loaded.Loaded.script.Goals as goal
 
 pub returns-clause-sound : goal.returns-clause-sound
@@ -12,6 +13,6 @@ returns-clause-sound c = λ o.
     let outlines = c.self.inside.outline.scripts.items in
     let within : n < length scripts = subst (λ (v : LoadedSet). n < length v.scripts) (sym c.self.view_is) c.requires in
     let here : found ≡ get_or scripts n found = subst (λ k. found ≡ get_or scripts k found) c.from.ensures c.index.ensures in
-    let pair = c.self.invariant.sound.scripts.each n o found within in
-    let sound : IsSoundScript (bounds_with (length scripts) (vec_len (get_or outlines n o).variables)) found = subst (λ (s : LoadedScript). IsSoundScript (bounds_with (length scripts) (vec_len (get_or outlines n o).variables)) s) (sym here) pair.script in
-    subst (λ (v : LoadedSet). IsSoundScript (bounds_with (length v.scripts) (vec_len (get_or v.outline n o).variables)) found) c.self.view_is sound
+    let coded = c.self.invariant.coded n o found within in
+    let sound : IsCodedScript (bounds_with (length scripts) (vec_len (get_or outlines n o).variables)) found = subst (λ (s : LoadedScript). IsCodedScript (bounds_with (length scripts) (vec_len (get_or outlines n o).variables)) s) (sym here) coded in
+    subst (λ (v : LoadedSet). IsCodedScript (bounds_with (length v.scripts) (vec_len (get_or v.outline n o).variables)) found) c.self.view_is sound
