@@ -1,5 +1,4 @@
-use Rattle.std.proofs.Common.{ℕ, List, length, map, sym, subst}
-use Rattle.std.specs.List.{AllZip}
+use Rattle.std.proofs.Common.{ℕ, List, length, sym, subst}
 use Rattle.core_tree.specs.declared.outline.OutlineScript.{OutlineScript}
 use Rattle.pex_values.specs.declared.values.Pex.{Pex}
 use Rattle.pex_verify.specs.Sets.{AreSoundScripts}
