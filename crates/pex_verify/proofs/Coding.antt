@@ -1,6 +1,6 @@
 -- What loaded code means, by what it was made of.
 use Rattle.std.proofs.Common.{◌≡◌, ℕ, zero, suc, ◌+◌, ◌<◌, List, [], ◌∷◌, ◌++◌, length, Option, Some, None, Result, Ok, Err, IfOk, map, All, refl, sym, ap, subst, ◌∙◌, arith, vec_len}
-use Rattle.std.specs.Prelude.{ℤ, IfSome, slice_get, slice_index_or}
+use Rattle.std.specs.Prelude.{IfSome, slice_get, slice_index_or}
 use Rattle.std.specs.List.{AllZip}
 use Rattle.std.specs.declared.alloc.Global.{Global}
 use Rattle.std.specs.declared.vec.Vec.{Vec}
@@ -28,11 +28,11 @@ use Rattle.pex_verify.specs.declared.judged.JudgedOperand.TheVariants as given_a
 use Rattle.pex_verify.specs.declared.judged.JudgedProperty.{JudgedProperty}
 use Rattle.pex_verify.specs.declared.judged.JudgedScript.{JudgedScript}
 use Rattle.pex_verify.specs.Accepted.{at}
-use Rattle.pex_verify.specs.Coded.{AreCoded, CodePlace, IsCoded, IsCodedFunction, IsCodedProperty, IsCodedScript, Lands}
-use Rattle.pex_verify.specs.Coding.{AreCodesOf, CodesFunction, CodesInstruction, CodesOperand, CodesProperty, CodesScript, CodesState, CodesWhere, FitsPlain}
+use Rattle.pex_verify.specs.Coded.{AreCoded, CodePlace, IsCoded, IsCodedFunction, IsCodedProperty, Lands}
+use Rattle.pex_verify.specs.Coding.{CodesFunction, CodesInstruction, CodesOperand, CodesProperty, CodesScript, CodesState, CodesWhere, FitsPlain}
 use Rattle.pex_verify.specs.JudgedCode as judged
 use Rattle.pex_verify.specs.JudgedCode.{Operands, by_form, by_plain, form_at, form_table, given, number_of}
-use Rattle.pex_verify.specs.Soundness.{AreSoundInstructions, Bounds, IsSoundFunction, IsSoundInstruction, IsSoundProperty, IsSoundScript, Leads, LeadsBy, HasSize}
+use Rattle.pex_verify.specs.Soundness.{AreSoundInstructions, Bounds, IsSoundFunction, IsSoundInstruction, IsSoundProperty, Leads, LeadsBy, HasSize}
 use Rattle.pex_verify.specs.Uses.{action_of, action_table}
 use Rattle.pex_verify.proofs.Facts.{item_at}
 

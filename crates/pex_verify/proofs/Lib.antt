@@ -1,8 +1,7 @@
 pub mod ActionTable
-pub mod FormTable
 pub mod Lists
 pub mod Sets
-pub mod LoadedRows
+pub mod JudgedRows
 pub mod Fitting
 pub mod Typing
 pub mod TypedValues

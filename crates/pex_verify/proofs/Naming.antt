@@ -43,7 +43,7 @@ no_place {X} xs = ap (λ (n : ℕ). cond (ltb n (length xs)) (Some n) None) (all
   where
     all_passed : (ys : List X) → position_or_len (λ (x : X). false) ys ≡ length ys
     all_passed [] = refl
-    all_passed (y ∷ ys) = ap suc (all_passed ys)
+    all_passed (y ∷ ys) = ap (λ (n : ℕ). 1 + n) (all_passed ys) ∙ omega arith
 
 -- the first script of a name is the first object of its number, where there is one
 pub named_exactly : (names : List (List ℕ)) (heads : List Head) (outline : List ScriptShape) → AllZip (λ (head : Head) (shape : ScriptShape). number_in names shape.name ≡ Some head.name) heads outline → (name : List ℕ)

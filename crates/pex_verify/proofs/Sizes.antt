@@ -1,6 +1,6 @@
 -- Numbers of elements that stand in the code.
 use Rattle.std.proofs.Common.{◌≡◌, ℕ, ◌≤◌, Bool, true, false, List, Some, ℤ, pos, ◌≤ℤ◌, nat_le, refl, subst, sym, arith}
-use Rattle.std.specs.Prelude.{unsigned_abs, if◌then◌else◌, slice_index_or}
+use Rattle.std.specs.Prelude.{unsigned_abs, if◌then◌else◌}
 use Rattle.std.proofs.lemmas.Bool.Decides.{nat_tests}
 use Rattle.std.proofs.lemmas.Int.{ints}
 use Rattle.pex_verify.specs.declared.action.Action.{Action}

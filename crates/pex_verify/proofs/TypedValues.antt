@@ -1,5 +1,5 @@
 -- Instructions that look nothing up are typed where they are accepted.
-use Rattle.std.proofs.Common.{◌≡◌, ℕ, ◌≤◌, true, false, List, Option, Some, None, refl, ◌∙◌, ⊎_elim, arith, vec_len}
+use Rattle.std.proofs.Common.{◌≡◌, ℕ, ◌≤◌, true, false, List, Option, Some, None, refl, ◌∙◌, ⊎_elim, vec_len}
 use Rattle.std.specs.Prelude.{IsSome, slice_get}
 use Rattle.std.specs.Option.{IsSomeAnd}
 use Rattle.core_tree.specs.declared.core_type.CoreType.{CoreType}

@@ -1,5 +1,5 @@
 -- What instructions ask of their operands, by what they do.
-use Rattle.std.specs.Prelude.{◌≡◌, ◌⊎◌, ℕ, ◌<◌, false, pos, ◌≤ℤ◌, List, Option, Some, None, IsSome, MatchOption, length, slice_get, slice_index_or}
+use Rattle.std.specs.Prelude.{◌≡◌, ◌⊎◌, ℕ, ◌<◌, false, List, Option, Some, None, IsSome, MatchOption, length, slice_get, slice_index_or}
 use Rattle.std.specs.Option.{IsSomeAnd}
 use Rattle.core_tree.specs.declared.core_type.CoreType.{CoreType}
 use Rattle.core_tree.specs.declared.core_type.CoreType.TheVariants as kinds

@@ -1,5 +1,4 @@
--- What judged code means, by the opcode and the places of operands. Proofs need it, and it is what loaded code is made by:
--- see Plain.
+-- What judged code means, by the opcode and the places of operands. Loaded code is made of it and means the same (Coding).
 use Rattle.std.specs.Prelude.{ℕ, ◌==◌, ℤ, pos, unsigned_abs, bit_and, nat_le, if◌then◌else◌, List, [], ◌∷◌, length, map, position, Option, Some, None, slice_index_or}
 use Rattle.std.specs.Str.{str_eq_ignore_ascii_case}
 use Rattle.core_tree.specs.declared.value.Value.TheVariants as values

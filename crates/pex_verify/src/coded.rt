@@ -1,5 +1,5 @@
 // The last step of loading: judged code becomes loaded code, which means the same.
-ghost use Rattle.std.specs.Prelude.{◌≡◌, ◌<◌, ℕ, ◌+◌, [], Some, IfOk, IfSome, OnOk, slice_get};
+ghost use Rattle.std.specs.Prelude.{◌≡◌, ◌<◌, ℕ, ◌+◌, [], IfOk, IfSome, slice_get};
 ghost use Rattle.std.specs.List.{AllZip};
 ghost use Rattle.loaded_code.specs.Plain as loaded;
 ghost use Rattle.pex_verify.specs.Accepted.{at};
@@ -198,12 +198,7 @@ fn with_three(form: ThreeForm, mut operands: Operands) -> LoadedInstruction
     three(form, first, second, third)
 }
 
-fn three(
-    form: ThreeForm,
-    first: Operand,
-    second: Operand,
-    third: Operand,
-) -> LoadedInstruction
+fn three(form: ThreeForm, first: Operand, second: Operand, third: Operand) -> LoadedInstruction
     ensures means { loaded.instruction_of result ≡ judged.by_three form (loaded.operand_of first) (loaded.operand_of second) (loaded.operand_of third) }
     ensures sound { (place : CodePlace) → IsCoded place result }
 {

@@ -12,15 +12,19 @@ ghost use Rattle.pex_verify.specs.declared.action.Use.TheVariants.{Read};
 use crate::action::{Action, Use, action_of, uses_of};
 use crate::fault::{Judged, VerifyRule, check, refused};
 use crate::judged::{JudgedInstruction, JudgedOperand};
-use loaded_code::MethodPlace;
 use crate::members::method_place;
 use crate::operand_rules::{Lookup, look_up, name_at, operands_fit};
 use crate::scope::FunctionScope;
+use loaded_code::MethodPlace;
 use papy_base::{TEXT_LIMIT, Text};
 use pex_values::{Datum, Instruction};
 
 // The operands that are used so. Those behind the last use are read.
-fn resolve_all(scope: &FunctionScope<'_>, uses: &[Use], data: &[Datum]) -> Judged<Vec<JudgedOperand>>
+fn resolve_all(
+    scope: &FunctionScope<'_>,
+    uses: &[Use],
+    data: &[Datum],
+) -> Judged<Vec<JudgedOperand>>
     ensures resolved { IfOk result (λ operands. AreResolved (vec_len scope.now.slots.now.list) (vec_len scope.now.home.now.variables.now.list) uses.now operands.items) }
     ensures told { IfOk result (λ operands. AreTold scope.now uses.now «data».now operands.items) }
 {
@@ -157,7 +161,12 @@ fn broken_rule(
 }
 
 // Where a jump leads. Its offset counts from its own place.
-fn jump_of(action: Action, fixed: &[JudgedOperand], place: usize, count: usize) -> Judged<Option<u16>>
+fn jump_of(
+    action: Action,
+    fixed: &[JudgedOperand],
+    place: usize,
+    count: usize,
+) -> Judged<Option<u16>>
     ensures { IfOk result (Leads (Some action) place count fixed.now) }
 {
     match action {

@@ -27,7 +27,8 @@ mod verifier;
 pub use fault::{VerifyFault, VerifyRule};
 pub use loaded::Loaded;
 pub use loaded_code::{
-    LoadedFunction, LoadedInstruction, LoadedProperty, LoadedScript, MethodPlace, Operand, PropertyPlace,
+    LoadedFunction, LoadedInstruction, LoadedProperty, LoadedScript, MethodPlace, Operand,
+    PropertyPlace,
 };
 pub use typed_sets::verified_sets_are_typed;
 pub use verifier::verify;

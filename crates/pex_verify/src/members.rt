@@ -7,8 +7,8 @@ ghost use Rattle.papy_base.specs.Lineage.{AreAmong, AreRooted};
 ghost use Rattle.papy_base.specs.Ranks.{is_below, span_at, IsDescentOf};
 ghost use Rattle.pex_verify.specs.Tables.{Inherits};
 
-use loaded_code::MethodPlace;
 use crate::scripts::{PropertySignature, ScriptHead, Signature};
+use loaded_code::MethodPlace;
 use papy_base::{Descent, Made};
 use pex_set::{EMPTY_NAME, FileNames, Inherited, MemberPlace, OwnMembers};
 use pex_values::{PexFunction, PexObject, PexState};

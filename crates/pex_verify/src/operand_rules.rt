@@ -310,7 +310,12 @@ fn fits_element(scope: &FunctionScope<'_>, array: &JudgedOperand, value: &Judged
 
 // Whether the result and the arguments are of the types of what was found. Where nothing was, the result has to be
 // something that a value can be stored in.
-fn takes_found(scope: &FunctionScope<'_>, to: &JudgedOperand, more: &[JudgedOperand], found: Lookup<'_>) -> bool
+fn takes_found(
+    scope: &FunctionScope<'_>,
+    to: &JudgedOperand,
+    more: &[JudgedOperand],
+    found: Lookup<'_>,
+) -> bool
     ensures { IsTrue result → accepted.TakesFound scope.now to.now more.now found.entry }
 {
     match found.type_in(scope.home.set) {

@@ -172,7 +172,9 @@ impl FunctionScope<'_> {
         ensures { result ≡ stored_by self.now operand.now }
     {
         match operand {
-            JudgedOperand::Slot(_) | JudgedOperand::Variable(_) | JudgedOperand::State => Some(self.type_of(operand)),
+            JudgedOperand::Slot(_) | JudgedOperand::Variable(_) | JudgedOperand::State => Some(
+                self.type_of(operand),
+            ),
             _ => None,
         }
     }

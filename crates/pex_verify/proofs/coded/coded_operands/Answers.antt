@@ -1,4 +1,4 @@
-use Rattle.std.proofs.Common.{rules, map-id, refl}
+use Rattle.std.proofs.Common.{rules, map-id}
 use Rattle.std.proofs.lemmas.Iterator.Adapters.{YieldsList-from_vec}
 use Rattle.std.proofs.lemmas.Iterator.Consumers.{YieldsList-end}
 use Rattle.pex_verify.specs.Coding.{CodesOperand}

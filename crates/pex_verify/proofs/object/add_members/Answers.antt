@@ -1,4 +1,4 @@
-use Rattle.std.proofs.Common.{◌≡◌, ℕ, ◌+◌, ◌<◌, List, ◌++◌, length, get_or, take, refl, sym, ap, subst, ◌∙◌, rules, arith}
+use Rattle.std.proofs.Common.{◌≡◌, ℕ, ◌+◌, ◌<◌, List, ◌++◌, length, get_or, take, refl, sym, ap, subst, ◌∙◌, arith}
 use Rattle.std.specs.List.{flat_map}
 use Rattle.std.proofs.lemmas.List.{flat_map_more}
 use Rattle.pex_verify.specs.Sites.{site_of}
@@ -9,7 +9,7 @@ use Rattle.pex_verify.proofs.object.add_members.Goals as goal
 
 pub loop-place-preserved : goal.loop-place-preserved
 loop-place-preserved c = (
-  search rules,
+  λ sound. c.in_ok-add_member.ensures.sound (c.loop-place.invariant.0 sound),
   λ before given.
       let home = c.args.home.now in
       let places = c.lacking-place-items.result.now in

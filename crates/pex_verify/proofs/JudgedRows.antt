@@ -1,4 +1,4 @@
--- What loaded instructions are as plain data, computed from the definitions.
+-- What judged instructions are as plain data, computed from the definitions.
 use Rattle.std.proofs.Common.{◌≡◌, List, [], ◌∷◌, None, refl}
 use Rattle.std.specs.Prelude.{ℕ, codes, pos, negsuc}
 use Rattle.core_tree.specs.declared.value.Value.TheVariants as values
