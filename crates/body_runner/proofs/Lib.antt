@@ -1,2 +1,1 @@
-pub mod Sinks
 pub mod Texts

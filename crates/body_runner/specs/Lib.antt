@@ -1,12 +1,9 @@
 pub mod Arithmetic
 pub mod Calls
 pub mod Casts
-pub mod Faults
 pub mod Instructions
 pub mod Lines
-pub mod Natives
 pub mod Operands
 pub mod Settings
 pub mod Stores
 pub mod Values
-pub mod Written

@@ -4,6 +4,9 @@ use Rattle.std.specs.Option.{option_and_then, option_map, option_or}
 use Rattle.core_tree.specs.declared.core_type.CoreType.{CoreType}
 use Rattle.core_tree.specs.declared.core_type.CoreType.TheVariants as kinds
 use Rattle.core_tree.specs.declared.outline.OutlineScript.{OutlineScript}
+use Rattle.core_tree.specs.declared.scene_tree.Binding.{Binding}
+use Rattle.std.specs.declared.alloc.Global.{Global}
+use Rattle.std.specs.declared.vec.Vec.{Vec}
 use Rattle.loaded_code.specs.declared.script.LoadedFunction.{LoadedFunction}
 use Rattle.loaded_code.specs.declared.script.LoadedProperty.{LoadedProperty}
 use Rattle.loaded_code.specs.declared.script.LoadedScript.{LoadedScript}
@@ -47,3 +50,9 @@ type_of scripts script function (operands.Slot number) = slot_type function numb
 type_of scripts script function (operands.Variable number) = variable_type scripts script number
 type_of scripts script function operands.Instance = Some (kinds.Script script)
 type_of scripts script function operands.State = Some kinds.Text
+
+-- ---- natives
+-- what a native function of an empty state is bound to
+abbrev pub binding_in : List (Vec (Option Binding) Global) → MethodPlace → Option Binding
+binding_in natives at =
+    option_and_then (λ functions. option_and_then (λ binding. binding) (slice_get functions.items at.place)) (slice_get natives at.script)

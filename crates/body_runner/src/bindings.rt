@@ -1,7 +1,7 @@
 //! What native functions are bound to.
 
 ghost use Rattle.std.specs.Prelude.{◌≡◌};
-ghost use Rattle.body_runner.specs.Natives.{binding_in};
+ghost use Rattle.body_runner.specs.Settings.{binding_in};
 
 use core_tree::{Binding, BoundNative, Outline};
 use loaded_code::MethodPlace;

@@ -8,7 +8,7 @@ use Rattle.papy_io.specs.WriteFile.{WritesFile}
 use Rattle.papy_io.specs.declared.fault.IoFault.{IoFault}
 use Rattle.papy_io.specs.declared.fault.IoFault.TheVariants as io
 use Rattle.papy_io.proofs.Appending.{appends_nothing}
-use Rattle.body_runner.specs.Written.{AppendsLines, IsLines}
+use Rattle.stack_machine.specs.Written.{AppendsLines, IsLines}
 use Rattle.core_tree.specs.declared.scene_tree.SceneTree.{SceneTree}
 use Rattle.papy_base.specs.Bytes.{bytes_of}
 use Rattle.command_files.specs.declared.ending.Ending.{Ending}

@@ -7,8 +7,8 @@ use Rattle.papy_io.specs.declared.fault.IoFault.TheVariants as io
 use Rattle.papy_io.specs.Files.{Files}
 use Rattle.papy_io.specs.WriteFile.{WritesFile}
 use Rattle.scene_binder.specs.Instances.{tree_name}
-use Rattle.body_runner.specs.declared.fault.TurnFault.{TurnFault}
-use Rattle.body_runner.specs.declared.fault.TurnFault.TheVariants as turn
+use Rattle.stack_machine.specs.declared.status.TurnFault.{TurnFault}
+use Rattle.stack_machine.specs.declared.status.TurnFault.TheVariants as turn
 use Rattle.command_files.specs.declared.ending.Ending.{Ending}
 use Rattle.command_files.specs.declared.ending.Ending.TheVariants.{Done, OutOfMemory, Usage, ReadFault, WriteFault, Refused, NotBuilt}
 use Rattle.command_files.specs.Ending.{CountsBoth, CountsWrites, write_ending}

@@ -15,8 +15,8 @@ use Rattle.pex_verify.specs.Files as verified
 use Rattle.scene_runner.specs.Report.{Closes, IsClosing, IsReport, turns_line}
 use Rattle.scene_runner.proofs.Appending.{reports_behind}
 use Rattle.papy_io.proofs.Appending.{appends_nothing}
-use Rattle.body_runner.specs.Written.{AppendsLines}
-use Rattle.body_runner.specs.declared.fault.TurnFault.{TurnFault}
+use Rattle.stack_machine.specs.Written.{AppendsLines}
+use Rattle.stack_machine.specs.declared.status.TurnFault.{TurnFault}
 use Rattle.stack_save.specs.Held.{HasLayout, IsFile, IsHeld, LoadGives, limit}
 use Rattle.stack_save.specs.declared.fault.HeldFault.{HeldFault}
 use Rattle.stack_save.specs.declared.fault.HeldFault.TheVariants as held

@@ -17,11 +17,10 @@ use Rattle.command_files.specs.Outputs.{IsPart, Outputs}
 use Rattle.papy_io.proofs.Appending.{appends_nothing}
 use Rattle.scene_binder.specs.Kept.{IsOfTree}
 use Rattle.scene_runner.specs.Report.{IsClosing, IsReport, Reports, turns_line}
-use Rattle.body_runner.specs.Faults.{CountsFault}
-use Rattle.stack_machine.specs.Machine.{HasEnded, MachineView}
+use Rattle.stack_machine.specs.Machine.{CountsFault, HasEnded, MachineView}
 use Rattle.papy_io.specs.Sink.{AppendsSome}
-use Rattle.body_runner.specs.declared.fault.TurnFault.{TurnFault}
-use Rattle.body_runner.specs.declared.fault.TurnFault.TheVariants as turn
+use Rattle.stack_machine.specs.declared.status.TurnFault.{TurnFault}
+use Rattle.stack_machine.specs.declared.status.TurnFault.TheVariants as turn
 use Rattle.run_commands.specs.Play.{IsStarted, Plays, PlaysSet, RefusesScene, turns_ending}
 use Rattle.run_commands.specs.Report.{IsReportOf, IsReportWithin, WritesReport}
 

@@ -2,7 +2,7 @@
 -- every file is held, and that it tells how many turns were done, not which instances and stacks it tells of.
 use Rattle.std.specs.Prelude.{◌≡◌, ◌⊎◌, ℕ, suc, List, [], ◌∷◌}
 use Rattle.papy_io.specs.Files.{Files}
-use Rattle.body_runner.specs.Written.{IsLines}
+use Rattle.stack_machine.specs.Written.{IsLines}
 use Rattle.command_files.specs.declared.ending.Ending.{Ending}
 use Rattle.command_files.specs.declared.ending.Ending.TheVariants.{Done, OutOfMemory, Usage, ReadFault, WriteFault, Refused, NotBuilt}
 use Rattle.command_files.specs.declared.refusal.Place.{Place}

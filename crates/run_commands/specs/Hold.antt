@@ -6,7 +6,7 @@ use Rattle.machine_state.specs.Plain.{PlainState}
 use Rattle.papy_io.specs.Files.{Files, told_bytes, ChangesTold}
 use Rattle.papy_io.specs.Sink.{AppendsSome}
 use Rattle.papy_io.specs.WriteFile.{HoldsNow, MayHold}
-use Rattle.body_runner.specs.Written.{AppendsLines}
+use Rattle.stack_machine.specs.Written.{AppendsLines}
 use Rattle.stack_save.specs.Held.{Spells, limit}
 use Rattle.stack_save.specs.Spelling.{spelling}
 use Rattle.stack_save.specs.declared.fault.HeldRule.TheVariants.{TooLarge}

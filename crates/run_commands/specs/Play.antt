@@ -4,8 +4,8 @@ use Rattle.core_tree.specs.declared.scene_tree.SceneTree.{SceneTree}
 use Rattle.papy_io.specs.Sink.{AppendsSome}
 use Rattle.scene_binder.specs.Kept.{IsOfTree}
 use Rattle.stack_machine.specs.Machine.{MachineView}
-use Rattle.body_runner.specs.declared.fault.TurnFault.{TurnFault}
-use Rattle.body_runner.specs.declared.fault.TurnFault.TheVariants as turn
+use Rattle.stack_machine.specs.declared.status.TurnFault.{TurnFault}
+use Rattle.stack_machine.specs.declared.status.TurnFault.TheVariants as turn
 use Rattle.command_files.specs.declared.ending.Ending.{Ending}
 use Rattle.command_files.specs.declared.ending.Ending.TheVariants.{Done, OutOfMemory, Usage, ReadFault, WriteFault, Refused, NotBuilt}
 use Rattle.command_files.specs.declared.refusal.Place.{Place}

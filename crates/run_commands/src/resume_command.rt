@@ -4,7 +4,7 @@ ghost use Rattle.std.specs.String.{string_bytes};
 ghost use Rattle.papy_io.specs.Activity.{Idle};
 ghost use Rattle.papy_io.specs.Sink.{AppendsSome};
 ghost use Rattle.pex_verify.specs.Files.{IsFile};
-ghost use Rattle.body_runner.specs.Faults.{CountsTurn};
+ghost use Rattle.stack_machine.specs.Machine.{CountsTurn};
 ghost use Rattle.stack_save.specs.declared.fault.HeldFault.TheVariants as HeldFault;
 ghost use Rattle.command_files.specs.Ending.{CountsReads, CountsWrites, IsWordBelow, word_at};
 ghost use Rattle.command_files.specs.FileFault.{CountsFile, MissesFile};

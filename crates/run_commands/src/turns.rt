@@ -5,9 +5,8 @@ ghost use Rattle.latent_natives.specs.Devices.{SameKinds};
 ghost use Rattle.papy_io.specs.Sink.{AppendsSome};
 ghost use Rattle.scene_binder.specs.Bound.{instance_name};
 ghost use Rattle.scene_runner.specs.Report.{Reports};
-ghost use Rattle.body_runner.specs.Faults.{CountsTurn};
-ghost use Rattle.stack_machine.specs.Machine.{HasEnded};
-ghost use Rattle.body_runner.specs.Written.{WritesLines};
+ghost use Rattle.stack_machine.specs.Machine.{CountsTurn, HasEnded};
+ghost use Rattle.stack_machine.specs.Written.{WritesLines};
 ghost use Rattle.run_commands.specs.Journal.{IsJournalOf, NotesTurns};
 
 use core_tree::BoundInstance;

@@ -4,9 +4,9 @@ use Rattle.std.specs.Fmt.{decimal}
 use Rattle.std.specs.Prelude.{codes, Option, Result, Ok, Err, IfOk}
 use Rattle.papy_io.proofs.Appending.{both_appended}
 use Rattle.papy_io.specs.Sink.{Appended, AppendsSome}
-use Rattle.body_runner.specs.declared.fault.TurnFault.{TurnFault}
-use Rattle.body_runner.specs.Written.{AppendsLines, IsLines, WritesLines}
-use Rattle.body_runner.proofs.Sinks.{lines_some}
+use Rattle.stack_machine.specs.declared.status.TurnFault.{TurnFault}
+use Rattle.stack_machine.specs.Written.{AppendsLines, IsLines, WritesLines}
+use Rattle.stack_machine.proofs.Sinks.{lines_some}
 use Rattle.scene_runner.specs.Report.{Closes, IsClosing, IsReport, Reports, turns_line}
 
 -- what an answer has written, whatever it is

@@ -2,7 +2,7 @@
 use Rattle.std.specs.Prelude.{◌≡◌, ℕ, List, [], ◌∷◌, ◌++◌, Option, codes}
 use Rattle.std.specs.Fmt.{decimal}
 use Rattle.papy_io.specs.Sink.{Appended}
-use Rattle.body_runner.specs.Written.{IsLines}
+use Rattle.stack_machine.specs.Written.{IsLines}
 
 -- the first line of a closing report: the number of turns
 abbrev pub turns_line : ℕ → List ℕ

@@ -1,8 +1,8 @@
 //! The closing report of a run.
 
 ghost use Rattle.std.specs.Prelude.{◌≡◌, ◌<◌, IfOk, None};
-ghost use Rattle.body_runner.specs.Faults.{CountsTurn};
-ghost use Rattle.body_runner.specs.Written.{IsLines, WritesLines};
+ghost use Rattle.stack_machine.specs.Machine.{CountsTurn};
+ghost use Rattle.stack_machine.specs.Written.{IsLines, WritesLines};
 ghost use Rattle.papy_io.specs.Sink.{Appended, AppendsSome};
 ghost use Rattle.scene_runner.specs.Report.{Closes};
 

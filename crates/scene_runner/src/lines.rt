@@ -3,7 +3,7 @@
 
 ghost use Rattle.std.specs.Prelude.{◌≡◌, ◌<◌, IfOk, vec_len};
 ghost use Rattle.std.specs.String.{string_bytes};
-ghost use Rattle.body_runner.specs.Written.{IsLines};
+ghost use Rattle.stack_machine.specs.Written.{IsLines};
 ghost use Rattle.scene_runner.specs.Report.{turns_line};
 
 use core_tree::Value;

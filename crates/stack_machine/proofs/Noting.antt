@@ -7,7 +7,7 @@ use Rattle.run_replay.specs.declared.lock_move.LockMove.{LockMove}
 use Rattle.run_replay.specs.declared.lock_move.LockMove.TheVariants as moves
 use Rattle.stack_machine.specs.declared.status.TurnEnd.{TurnEnd}
 use Rattle.stack_machine.specs.declared.status.TurnEnd.TheVariants.{Ran, Idle, Ended}
-use Rattle.body_runner.specs.declared.fault.TurnFault.{TurnFault}
+use Rattle.stack_machine.specs.declared.status.TurnFault.{TurnFault}
 use Rattle.stack_machine.specs.Moves.{Adds, AddsSome, AppendsTurn, NotesEnd, AreOfBeginning, AreOfEnd, AreOfTurn, AreStarts, AreWakes, Arrives, Begins, IsAct, IsTake, LetsGo, Noted, Takes}
 
 -- ---- one step after another

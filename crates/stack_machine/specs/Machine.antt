@@ -3,9 +3,11 @@ use Rattle.std.specs.Prelude.{◌≡◌, ◌⊎◌, ℕ, ◌+◌, ◌<◌, ◌�
 use Rattle.core_tree.specs.declared.outline.OutlineScript.{OutlineScript}
 use Rattle.core_tree.specs.declared.scene.Scene.{Scene}
 use Rattle.core_tree.specs.declared.scene_tree.TurnOrder.TheVariants as orders
+use Rattle.papy_io.specs.Count.{HasRisen}
 use Rattle.stack_machine.specs.declared.status.TurnEnd.{TurnEnd}
 use Rattle.stack_machine.specs.declared.status.TurnEnd.TheVariants.{Ran, Idle, Ended}
-use Rattle.body_runner.specs.declared.fault.TurnFault.{TurnFault}
+use Rattle.stack_machine.specs.declared.status.TurnFault.{TurnFault}
+use Rattle.stack_machine.specs.declared.status.TurnFault.TheVariants.{WriteFault, OutOfMemory}
 
 pub record MachineView : Type 0 where
   -- what no turn changes
@@ -46,3 +48,13 @@ HasStarted (Ok (Ran stack)) started = stack < started
 HasStarted (Ok Idle) started = Unit {0}
 HasStarted (Ok Ended) started = Unit {0}
 HasStarted (Err fault) started = Unit {0}
+
+-- the count of a sink's faults rises with WriteFault
+abbrev pub CountsFault : TurnFault → ℕ → ℕ → Type 0
+CountsFault WriteFault before now = HasRisen before now
+CountsFault OutOfMemory before now = now ≡ before
+
+-- it rises exactly in a turn that answers WriteFault
+abbrev pub CountsTurn : {T : Type 0} → Result T TurnFault → ℕ → ℕ → Type 0
+CountsTurn (Ok value) before now = now ≡ before
+CountsTurn (Err fault) before now = CountsFault fault before now

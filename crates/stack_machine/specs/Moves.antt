@@ -5,7 +5,7 @@ use Rattle.run_replay.specs.declared.lock_move.LockMove.{LockMove}
 use Rattle.run_replay.specs.declared.lock_move.LockMove.TheVariants as moves
 use Rattle.stack_machine.specs.declared.status.TurnEnd.{TurnEnd}
 use Rattle.stack_machine.specs.declared.status.TurnEnd.TheVariants.{Ran, Idle, Ended}
-use Rattle.body_runner.specs.declared.fault.TurnFault.{TurnFault}
+use Rattle.stack_machine.specs.declared.status.TurnFault.{TurnFault}
 
 -- moves that are kept grow by these
 abbrev pub Adds : List LockMove → Option (List LockMove) → Option (List LockMove) → Type 0

@@ -3,8 +3,10 @@
 
 mod machine;
 mod moves;
+mod natives;
 mod plan;
 mod restore;
+mod run;
 mod savable;
 mod snapshot;
 mod sound;
@@ -12,8 +14,8 @@ mod status;
 mod threads;
 mod world;
 
-pub use body_runner::{TurnFault, append_escaped};
+pub use body_runner::append_escaped;
 pub use machine::Machine;
 pub use machine_state::{BodyPlace, FrameState, MachineState, Way};
 pub use run_replay::LockMove;
-pub use status::{RestoreFault, Status, TurnEnd};
+pub use status::{RestoreFault, Status, TurnEnd, TurnFault};

@@ -4,18 +4,17 @@
 ghost use Rattle.std.specs.Prelude.{◌≡◌, ◌↔◌, ◌+◌, ◌<◌, ◌≤◌, ◌^◌, false, Ok, Err, None, IfOk, IfSome, IsTrue, MatchResult, OnOk, map, take, vec_len};
 ghost use Rattle.latent_natives.specs.Devices.{SameKinds};
 ghost use Rattle.body_runner.specs.Casts.{IsTextOf};
-ghost use Rattle.body_runner.specs.Faults.{CountsTurn};
-ghost use Rattle.stack_machine.specs.Machine.{turns_after, fault_after, HasEnded, HasNothingLeft, HasStarted};
+ghost use Rattle.stack_machine.specs.Machine.{turns_after, fault_after, CountsTurn, HasEnded, HasNothingLeft, HasStarted};
 ghost use Rattle.stack_machine.specs.Moves.{AppendsTurn, NotesEnd};
 ghost use Rattle.stack_machine.specs.Plans.{ArePlanned, HasBegun, calls_before};
-ghost use Rattle.body_runner.specs.Written.{WritesLines};
+ghost use Rattle.stack_machine.specs.Written.{WritesLines};
 
 use crate::moves::{MoveSink, NoNotes};
 use crate::plan::Plan;
-use crate::status::{Status, TurnEnd};
+use crate::status::{Status, TurnEnd, TurnFault};
 use crate::threads::Threads;
 use crate::world::World;
-use body_runner::{Bindings, Setting, Store, TurnFault, text_of};
+use body_runner::{Bindings, Setting, Store, text_of};
 use core_tree::{Outline, Scene, TurnOrder, Value};
 use instance_store::Arrays;
 use latent_natives::{Device, load_device};

@@ -1,9 +1,13 @@
-//! How turns end, what stacks do, and why a state gives no machine.
+//! What turns and stacks answer, and why a state gives no machine.
 
 ghost use Rattle.std.specs.Prelude.{◌≡◌};
+ghost use Rattle.stack_machine.specs.Faults.{fault_of_sink};
 ghost use Rattle.stack_machine.specs.declared.status.RestoreFault.TheVariants.{OutOfMemory as NoMemoryToRestore};
+ghost use Rattle.stack_machine.specs.declared.status.TurnFault.TheVariants.{OutOfMemory as TurnOutOfMemory};
 
 use papy_base::OutOfMemory;
+use papy_io::IoFault;
+use std::alloc::AllocError;
 use thiserror::Error;
 
 /// How a turn ended.
@@ -15,6 +19,17 @@ pub enum TurnEnd {
     Idle,
     /// The run has ended, and nothing has changed.
     Ended,
+}
+
+/// Why a turn didn't come to its end. The machine answers the same from then on.
+#[derive(Clone, Copy, Debug, PartialEq, Eq, Error)]
+pub enum TurnFault {
+    /// A line of the report wasn't written.
+    #[error("the report wasn't written")]
+    WriteFault,
+    /// No memory was found.
+    #[error("out of memory")]
+    OutOfMemory,
 }
 
 /// Why a state gives no machine.
@@ -42,6 +57,33 @@ pub enum Status {
     Waits(u16),
     /// It sleeps and is due at this turn.
     Asleep(u32),
+}
+
+impl From<OutOfMemory> for TurnFault {
+    ghost from_gives = { λ _ fault. fault ≡ TurnOutOfMemory };
+
+    fn from(_error: OutOfMemory) -> TurnFault {
+        TurnFault::OutOfMemory
+    }
+}
+
+impl From<AllocError> for TurnFault {
+    ghost from_gives = { λ _ fault. fault ≡ TurnOutOfMemory };
+
+    fn from(_error: AllocError) -> TurnFault {
+        TurnFault::OutOfMemory
+    }
+}
+
+impl From<IoFault> for TurnFault {
+    ghost from_gives = { λ error fault. fault ≡ fault_of_sink error };
+
+    fn from(error: IoFault) -> TurnFault {
+        match error {
+            IoFault::Failed => TurnFault::WriteFault,
+            IoFault::OutOfMemory => TurnFault::OutOfMemory,
+        }
+    }
 }
 
 impl From<OutOfMemory> for RestoreFault {

@@ -9,8 +9,10 @@ ghost use Rattle.stack_machine.specs.Moves.{AddsSome, AreWakes, Begins, Noted, T
 ghost use Rattle.stack_machine.specs.Threads.{GoesToWait, HasGrown, IsOn, IsSameSize, due_after, let_go, put_to_sleep, taken};
 
 use crate::moves::{MoveSink, note_any};
+use crate::natives::Performed;
+use crate::run::RunEnd;
 use crate::status::Status;
-use body_runner::{Call, CallWay, FRAME_LIMIT, Frame, Performed, RunEnd, Stack};
+use body_runner::{Call, CallWay, FRAME_LIMIT, Frame, Stack};
 use core_tree::Value;
 use latent_natives::Sleepers;
 use lock_queue::Locks;

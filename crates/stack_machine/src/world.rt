@@ -1,22 +1,22 @@
 //! What turns change, and what a turn does.
-#![tactic(auto, using(body_runner::proofs::Sinks::sinks))]
+#![tactic(auto, using(crate::proofs::Sinks::sinks))]
 
 ghost use Rattle.std.specs.Prelude.{◌≡◌, ◌<◌, ◌+◌, IfOk, IfSome, MatchResult, Ok, OnOk, map, vec_len};
 ghost use Rattle.std.specs.Option.{ForSome};
 ghost use Rattle.latent_natives.specs.Devices.{SameKinds};
-ghost use Rattle.body_runner.specs.Faults.{CountsTurn};
 ghost use Rattle.stack_machine.specs.Choices.{chosen};
-ghost use Rattle.stack_machine.specs.Machine.{HasStarted};
+ghost use Rattle.stack_machine.specs.Machine.{CountsTurn, HasStarted};
 ghost use Rattle.stack_machine.specs.Moves.{AddsSome, AreOfBeginning, AreOfEnd, AreOfTurn, AreStarts, Begins, IsAct, Noted};
 ghost use Rattle.stack_machine.specs.Plans.{HasBegun, calls_before};
 ghost use Rattle.stack_machine.specs.Threads.{HasGrown, IsSameSize};
-ghost use Rattle.body_runner.specs.Written.{WritesLines};
+ghost use Rattle.stack_machine.specs.Written.{WritesLines};
 
 use crate::moves::{MoveSink, moves_between, note_any};
 use crate::plan::{Plan, PlannedCall};
-use crate::status::TurnEnd;
+use crate::run::run_innermost;
+use crate::status::{TurnEnd, TurnFault};
 use crate::threads::Threads;
-use body_runner::{Call, CallWay, Frame, Setting, Store, Turn, TurnFault, copies, run_innermost};
+use body_runner::{Call, CallWay, Frame, Setting, Store, Turn, copies};
 use core_tree::{Scene, TurnOrder};
 use latent_natives::Device;
 use papy_base::Made;

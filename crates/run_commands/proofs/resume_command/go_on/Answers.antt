@@ -1,4 +1,4 @@
-use Rattle.body_runner.proofs.Sinks.{some_behind_lines}
+use Rattle.stack_machine.proofs.Sinks.{some_behind_lines}
 use Rattle.run_commands.proofs.ResumedRun.{went_on}
 use Rattle.run_commands.proofs.resume_command.go_on.Goals as goal
 

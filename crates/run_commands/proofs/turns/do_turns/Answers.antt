@@ -1,7 +1,7 @@
 use Rattle.std.proofs.Common.{arith, ◌∙◌}
 use Rattle.std.proofs.lemmas.Grind.{common_steps}
 use Rattle.std.proofs.lemmas.Result.{err_from_is_err_and}
-use Rattle.body_runner.proofs.Sinks.{fault_behind_lines, lines_more}
+use Rattle.stack_machine.proofs.Sinks.{fault_behind_lines, lines_more}
 use Rattle.run_commands.proofs.turns.do_turns.Goals as goal
 
 pub returns-in_err-turn-clause-appended : goal.returns-in_err-turn-clause-appended

@@ -1,7 +1,7 @@
 use Rattle.std.proofs.Common.{◌≡◌, ◌+◌, map}
 use Rattle.std.specs.Prelude.{None}
 use Rattle.latent_natives.specs.Devices.{SameKinds}
-use Rattle.body_runner.specs.Written.{AppendsLines}
+use Rattle.stack_machine.specs.Written.{AppendsLines}
 use Rattle.run_commands.proofs.turns.do_turns.Given as goal
 
 -- so many turns are done

@@ -1,6 +1,6 @@
 use Rattle.std.proofs.Common.{◌∙◌, refl}
 use Rattle.std.proofs.lemmas.Result.{err_from_is_err_and}
-use Rattle.body_runner.proofs.Sinks.{fault_behind_lines, lines_more, lines_none}
+use Rattle.stack_machine.proofs.Sinks.{fault_behind_lines, lines_more, lines_none}
 use Rattle.run_commands.proofs.NotedRun.{noted_more, noted_none}
 use Rattle.run_commands.proofs.turns.note_turns.Goals as goal
 

@@ -1,5 +1,5 @@
 use Rattle.std.proofs.Common.{Ok}
-use Rattle.body_runner.proofs.Sinks.{lines_some, some_behind_lines}
+use Rattle.stack_machine.proofs.Sinks.{lines_some, some_behind_lines}
 use Rattle.scene_runner.proofs.Appending.{reports_behind}
 use Rattle.run_commands.proofs.turns.noted_run.Goals as goal
 

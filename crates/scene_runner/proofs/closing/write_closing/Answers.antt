@@ -1,6 +1,6 @@
 use Rattle.std.proofs.Common.{◌≡◌, ◌∙◌, ap}
 use Rattle.scene_runner.specs.Report.{turns_line}
-use Rattle.body_runner.proofs.Sinks.{lines_before, lines_more, some_behind_lines}
+use Rattle.stack_machine.proofs.Sinks.{lines_before, lines_more, some_behind_lines}
 use Rattle.scene_runner.proofs.Appending.{closes_behind, turns_is_line, writes_some}
 use Rattle.scene_runner.proofs.closing.write_closing.Goals as goal
 

@@ -1,6 +1,6 @@
 use Rattle.std.proofs.Common.{◌∙◌}
 use Rattle.std.proofs.lemmas.Result.{err_from_is_err_and}
-use Rattle.body_runner.proofs.Sinks.{fault_behind_lines, lines_more}
+use Rattle.stack_machine.proofs.Sinks.{fault_behind_lines, lines_more}
 use Rattle.scene_runner.proofs.closing.write_instances.Goals as goal
 
 pub returns-in_err-write_line-clause-appended : goal.returns-in_err-write_line-clause-appended

@@ -1,5 +1,5 @@
 use Rattle.std.proofs.Common.{◌≡◌}
-use Rattle.body_runner.specs.Written.{AppendsLines}
+use Rattle.stack_machine.specs.Written.{AppendsLines}
 use Rattle.scene_runner.proofs.closing.write_stacks.Given as goal
 
 abbrev pub invariant-loop-stack : goal.invariant-loop-stack

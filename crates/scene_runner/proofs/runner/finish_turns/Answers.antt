@@ -1,4 +1,4 @@
-use Rattle.body_runner.proofs.Sinks.{lines_before}
+use Rattle.stack_machine.proofs.Sinks.{lines_before}
 use Rattle.scene_runner.proofs.runner.finish_turns.Goals as goal
 
 pub returns-clause-appended : goal.returns-clause-appended

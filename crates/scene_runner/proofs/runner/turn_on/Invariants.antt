@@ -1,7 +1,7 @@
 use Rattle.std.proofs.Common.{◌≡◌, ◌-◌, map}
 use Rattle.std.specs.Prelude.{None}
 use Rattle.latent_natives.specs.Devices.{SameKinds}
-use Rattle.body_runner.specs.Written.{AppendsLines}
+use Rattle.stack_machine.specs.Written.{AppendsLines}
 use Rattle.scene_runner.proofs.runner.turn_on.Given as goal
 
 abbrev pub invariant-loop : goal.invariant-loop

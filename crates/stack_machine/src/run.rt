@@ -1,20 +1,17 @@
-//! A body that runs, up to what ends its turn.
+//! The run of a stack, up to what ends its turn.
 #![tactic(auto, using(crate::proofs::Sinks::sinks))]
 
 ghost use Rattle.std.specs.Prelude.{◌+◌, ◌<◌, ◌≤◌, ◌^◌, IfOk, length, map};
 ghost use Rattle.latent_natives.specs.Devices.{SameKinds};
-ghost use Rattle.body_runner.specs.Faults.{CountsTurn};
-ghost use Rattle.body_runner.specs.Written.{WritesLines};
+ghost use Rattle.stack_machine.specs.Machine.{CountsTurn};
+ghost use Rattle.stack_machine.specs.Written.{WritesLines};
 
-use crate::body::{Home, Inner, Turn};
-use crate::calls::Event;
-use crate::fault::TurnFault;
-use crate::frame::{Call, Frame, LoadedBody, Running, Stack};
-use crate::instructions::Step;
-use crate::lines::fault_line;
 use crate::natives::{Performed, perform};
-use crate::setting::Found;
-use crate::store::Store;
+use crate::status::TurnFault;
+use body_runner::{
+    Call, Event, Found, Frame, Home, Inner, LoadedBody, Running, Stack, Step, Store, Turn,
+    fault_line,
+};
 use core_tree::Value;
 use latent_natives::Device;
 use loaded_code::{LoadedInstruction, MethodPlace};

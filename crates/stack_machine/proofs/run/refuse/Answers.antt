@@ -1,6 +1,6 @@
 use Rattle.std.proofs.Common.{◌∙◌}
-use Rattle.body_runner.proofs.Sinks.{fault_written}
-use Rattle.body_runner.proofs.run.refuse.Goals as goal
+use Rattle.stack_machine.proofs.Sinks.{fault_written}
+use Rattle.stack_machine.proofs.run.refuse.Goals as goal
 
 pub returns-clause-appended : goal.returns-clause-appended
 returns-clause-appended g c = fault_written _ _ _ _ _ _ _ _ (c.as_slice.ensures.value ∙ c.in_ok-line.ensures) c.in_ok-write.ensures.written

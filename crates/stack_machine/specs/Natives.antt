@@ -1,10 +1,7 @@
 -- What native functions do to devices and to the report, and what they give.
-use Rattle.std.specs.Prelude.{ℕ, List, [], ◌∷◌, Option, None, Some, ℤ, pos, length, map, min, nat_lt, int_lt, not, slice_get, slice_set, if◌then◌else◌}
+use Rattle.std.specs.Prelude.{ℕ, List, [], ◌∷◌, Option, None, Some, ℤ, pos, length, map, min, nat_lt, int_lt, not, slice_set, if◌then◌else◌}
 use Rattle.std.specs.Int.RustNames.{unsigned_abs}
-use Rattle.std.specs.Option.{option_and_then}
 use Rattle.std.specs.Ordering.{int_eq}
-use Rattle.std.specs.declared.alloc.Global.{Global}
-use Rattle.std.specs.declared.vec.Vec.{Vec}
 use Rattle.core_tree.specs.Device.{DeviceState, device_at, device_step}
 use Rattle.core_tree.specs.declared.core_type.CoreType.{CoreType}
 use Rattle.core_tree.specs.declared.core_type.CoreType.TheVariants as kinds
@@ -12,14 +9,8 @@ use Rattle.core_tree.specs.declared.scene_tree.Binding.{Binding}
 use Rattle.core_tree.specs.declared.scene_tree.Binding.TheVariants as bindings
 use Rattle.core_tree.specs.declared.value.Value.{Value}
 use Rattle.core_tree.specs.declared.value.Value.TheVariants as values
-use Rattle.loaded_code.specs.declared.script.MethodPlace.{MethodPlace}
 use Rattle.body_runner.specs.Lines.{trace_line}
 use Rattle.body_runner.specs.Values.{number_in}
-
--- what a native function of an empty state is bound to
-abbrev pub binding_in : List (Vec (Option Binding) Global) → MethodPlace → Option Binding
-binding_in natives at =
-    option_and_then (λ functions. option_and_then (λ binding. binding) (slice_get functions.items at.place)) (slice_get natives at.script)
 
 -- ---- sleep
 abbrev pub first_number : List Value → ℤ

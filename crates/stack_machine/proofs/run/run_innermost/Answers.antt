@@ -1,5 +1,5 @@
-use Rattle.body_runner.proofs.Sinks.{lines_before}
-use Rattle.body_runner.proofs.run.run_innermost.Goals as goal
+use Rattle.stack_machine.proofs.Sinks.{lines_before}
+use Rattle.stack_machine.proofs.run.run_innermost.Goals as goal
 
 pub returns-in-Running-clause-appended : goal.returns-in-Running-clause-appended
 returns-in-Running-clause-appended g c =

@@ -4,11 +4,11 @@ use Rattle.std.specs.Fmt.{decimal}
 use Rattle.papy_base.specs.declared.faults.StackFault.{StackFault}
 use Rattle.papy_io.proofs.Appending.{appended_none, appends_more, appends_none, appends_written, both_appended}
 use Rattle.papy_io.specs.Sink.{Appended, AppendsSome}
-use Rattle.body_runner.specs.declared.fault.TurnFault.{TurnFault}
+use Rattle.stack_machine.specs.declared.status.TurnFault.{TurnFault}
 use Rattle.body_runner.specs.Lines.{fault_line, trace_line}
 use Rattle.papy_base.specs.ReportWords.{escaped, fault_name}
-use Rattle.body_runner.specs.Faults.{CountsFault, CountsTurn}
-use Rattle.body_runner.specs.Written.{AppendsLines, IsLines, WritesLines}
+use Rattle.stack_machine.specs.Machine.{CountsFault, CountsTurn}
+use Rattle.stack_machine.specs.Written.{AppendsLines, IsLines, WritesLines}
 
 -- a count that stood still before
 pub counts_later : (fault : TurnFault) (before between now : ℕ) → between ≡ before → CountsFault fault between now → CountsFault fault before now
