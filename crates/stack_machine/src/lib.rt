@@ -4,6 +4,7 @@
 mod machine;
 mod moves;
 mod natives;
+mod parts;
 mod plan;
 mod restore;
 mod run;
