@@ -1,0 +1,17 @@
+use Rattle.std.proofs.Common.{◌≡◌, Bool, false, true, [], ◌∷◌, refl, sym, ap, ◌∙◌, rules}
+use Rattle.core_tree.specs.Tree.{expression_of, one, two, three, StoreLocal, StoreField, StoreState, StoreProperty, StoreElement, GiveBack, NoExpression}
+use Rattle.code_meaning.specs.Code as op
+use Rattle.emit_meaning.specs.Codes.{calls}
+use Rattle.code_lower.specs.declared.place.Place.{Place}
+use Rattle.code_lower.specs.Lowered.{operand_of}
+use Rattle.code_lower.proofs.FormsEmit.{if_ok_then, if_ok_then2, second_reach, third_reach}
+use Rattle.code_lower.proofs.Operands.{gives_one, reaches_none}
+use Rattle.code_lower.proofs.EffectsEmit.{effect_emits, store_emits, own_has, field_has, changed_is, read_given, temporaries_out, held_given, old_given, change_property_emits, change_element_emits}
+use Rattle.code_lower.proofs.statements.give_value.Goals as goal
+
+pub instruct-requires : goal.instruct-requires
+instruct-requires c = gives_one c.value.new.writer.slots c.in_ok-of.of c.in_ok-of.ensures.emits.given
+
+pub returns : goal.returns
+returns c =
+    if_ok_then c.instruct.result c.instruct.ensures (λ u i. store_emits (expression_of c.args.of.now) GiveBack c.args.writer.now c.value.new.writer c.instruct.new.self c.in_ok-of.of _ c.in_ok-of.ensures.emits c.in_ok-of.ensures.value i refl (λ r serves. tt))
