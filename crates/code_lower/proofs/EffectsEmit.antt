@@ -1,19 +1,19 @@
 -- What is done with values, and compound assignments.
-use Rattle.std.proofs.Common.{◌≡◌, ◌⊎◌, ℕ, ◌+◌, ◌<◌, ◌≤◌, Bool, true, false, ◌||◌, List, [], ◌∷◌, ◌++◌, map, length, Option, Some, inl, inr, refl, sym, ap, subst, ◌∙◌, arith, append_assoc}
+use Rattle.std.proofs.Common.{◌≡◌, ◌⊎◌, ℕ, ◌<◌, ◌≤◌, Bool, true, false, ◌||◌, List, [], ◌∷◌, ◌++◌, map, length, Option, Some, inl, inr, refl, sym, ap, subst, ◌∙◌, arith, append_assoc}
 use Rattle.std.proofs.lemmas.List.{append-nil, length-append}
 use Rattle.core_tree.specs.declared.core_type.CoreType.{CoreType}
 use Rattle.core_tree.specs.declared.operator.Arith.{Arith}
 use Rattle.core_tree.specs.declared.operator.Arith.TheVariants as signs
-use Rattle.core_tree.specs.Tree.{Expression, Expressions, NoExpression, MoreExpressions, Effect, StoreLocal, StoreField, StoreState, StoreProperty, StoreElement, GiveBack, Statement, Do, ChangeProperty, ChangeElement, one, two, three}
+use Rattle.core_tree.specs.Tree.{Expression, Expressions, NoExpression, Effect, StoreLocal, StoreField, Statement, Do, ChangeProperty, ChangeElement, one, two, three}
 use Rattle.code_meaning.specs.Code.{Operand, Slot, Instruction}
 use Rattle.code_meaning.specs.Code as op
-use Rattle.emit_meaning.specs.Codes.{Routine, Among, with_operand, gives, IsFree, Has, variable_kind, kind_at, slot_count, arith_code, affected, CanAffect, calls, Codes, CodesAll, no_code, Kept, CodesStatement, do_code, change_property_code, change_element_code, lined}
+use Rattle.emit_meaning.specs.Codes.{Routine, Among, with_operand, slot_count, arith_code, affected, CanAffect, calls, CodesAll, no_code, CodesStatement, do_code, change_property_code, change_element_code, lined}
 use Rattle.code_lower.specs.declared.place.Place.{Place}
 use Rattle.code_lower.specs.declared.place.Place.TheVariants as place
 use Rattle.code_lower.specs.Slots.{Slots, IsOut, IsOwn, AreOut, Grows}
-use Rattle.code_lower.specs.Lowered.{Known, State, Serves, Adds, Emits, Keeps, Reaches, GaveBack, Instructs, Places, operand_of, is_value, slots_of, temporaries_of, IsTemporaryAmong, IsApart, AreGiven, with_operands, binary_code, arith_binary}
-use Rattle.code_lower.specs.Statements.{AddsLines, StatementEmits, Changed}
-use Rattle.code_lower.proofs.Operands.{reaches_none, reaches_more, grows_nowhere, grows_further, grows_to, serves_before, lined_joined, out_withs, out_with, temporary_slot, gives_one, given_joined, given_still, given_grown, given_kept, apart_not, slot_there, slot_kind}
+use Rattle.code_lower.specs.Lowered.{Known, State, Serves, Adds, Emits, Keeps, Reaches, Instructs, Places, operand_of, is_value, slots_of, temporaries_of, IsTemporaryAmong, AreGiven, binary_code, arith_binary}
+use Rattle.code_lower.specs.Statements.{StatementEmits, Changed}
+use Rattle.code_lower.proofs.Operands.{reaches_none, reaches_more, grows_nowhere, grows_further, grows_to, serves_before, lined_joined, out_with, temporary_slot, gives_one, given_joined, given_still, given_grown, given_kept, apart_not, slot_kind}
 use Rattle.code_lower.proofs.FormsEmit.{one_reach}
 use Rattle.code_lower.proofs.StatementsEmit.{none_out}
 

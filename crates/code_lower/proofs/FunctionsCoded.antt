@@ -1,7 +1,7 @@
 -- A whole function, from its statements.
-use Rattle.std.proofs.Common.{◌≡◌, ℕ, zero, suc, ◌+◌, ◌<◌, ◌≤◌, List, [], ◌∷◌, ◌++◌, map, length, Option, Some, None, refl, sym, ap, subst, ◌∙◌, arith, append_assoc}
+use Rattle.std.proofs.Common.{◌≡◌, ℕ, zero, suc, ◌<◌, List, [], ◌∷◌, ◌++◌, length, Option, refl, sym, ap, subst, ◌∙◌, arith, append_assoc}
 use Rattle.std.specs.Prelude.{slice_get}
-use Rattle.std.proofs.lemmas.List.{append-nil, length-append}
+use Rattle.std.proofs.lemmas.List.{append-nil}
 use Rattle.core_tree.specs.declared.core_type.CoreType.{CoreType}
 use Rattle.core_tree.specs.declared.outline.OutlineVariable.{OutlineVariable}
 use Rattle.core_tree.specs.declared.script.CoreFunction.{CoreFunction}
@@ -13,7 +13,7 @@ use Rattle.run_laws.specs.Fits.{typed}
 use Rattle.code_meaning.specs.Code.{Function, Instruction}
 use Rattle.code_meaning.specs.LookUp.{BodyPlace, script_of}
 use Rattle.code_meaning.specs.Operands.{variables_in, kind_in}
-use Rattle.emit_meaning.specs.Codes.{Routine, Has, variable_kind, CodesBlock}
+use Rattle.emit_meaning.specs.Codes.{Routine, Has, CodesBlock}
 use Rattle.emit_meaning.specs.Coded.{Set, IsCoded, routine_of}
 use Rattle.code_lower.specs.declared.place.Lowered.{Lowered}
 use Rattle.code_lower.specs.Slots.{Slots, own_slots_of}

@@ -1,11 +1,10 @@
 -- The slots of a function at its beginning.
-use Rattle.std.proofs.Common.{◌≡◌, ℕ, ◌+◌, List, [], ◌++◌, length, Option, Some, None, sym, ap, subst, ◌∙◌, arith}
-use Rattle.std.proofs.lemmas.List.{length-append}
+use Rattle.std.proofs.Common.{◌≡◌, ℕ, List, [], ◌++◌, length, Option, None, sym, ap, subst, ◌∙◌}
 use Rattle.core_tree.specs.declared.core_type.CoreType.{CoreType}
 use Rattle.core_tree.specs.declared.script.CoreFunction.{CoreFunction}
 use Rattle.run_laws.specs.Fits.{typed}
-use Rattle.code_lower.specs.Slots.{Slots, AreSlots, own_slots_of}
-use Rattle.code_lower.proofs.SlotLemmas.{own_slots, typed_joined, typed_length}
+use Rattle.code_lower.specs.Slots.{AreSlots}
+use Rattle.code_lower.proofs.SlotLemmas.{own_slots, typed_joined}
 
 pub own_slots_hold : (f : CoreFunction) (kinds : List (Option CoreType)) (own : ℕ) (free : List (CoreType × ℕ)) → kinds ≡ typed f.parameters.items ++ typed f.locals.items → own ≡ length kinds → free ≡ [] → AreSlots own kinds free None
 own_slots_hold f kinds own free e same none =

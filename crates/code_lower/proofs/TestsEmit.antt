@@ -1,19 +1,19 @@
 -- The tests of an If, whose jumps land behind what they lead over.
-use Rattle.std.proofs.Common.{◌≡◌, ℕ, suc, ◌+◌, ◌-◌, ◌<◌, Bool, true, List, [], ◌∷◌, ◌++◌, map, length, refl, sym, ap, subst, ◌∙◌, arith, append_assoc}
+use Rattle.std.proofs.Common.{◌≡◌, ℕ, suc, ◌-◌, ◌<◌, true, List, [], ◌∷◌, ◌++◌, length, sym, ap, subst, ◌∙◌, arith, append_assoc}
 use Rattle.std.specs.Prelude.{pos, slice_set}
 use Rattle.std.proofs.lemmas.List.{append-nil, length-append}
 use Rattle.core_tree.specs.declared.expression.Core.{Core}
 use Rattle.core_tree.specs.declared.statement.CoreLine.{CoreLine}
 use Rattle.std.specs.declared.alloc.Global.{Global}
 use Rattle.std.specs.declared.vec.Vec.{Vec}
-use Rattle.core_tree.specs.Tree.{expression_of, block_of, branches_of, Expression, Block, NoStatement, Branches, NoBranch, MoreBranches, Statement, If}
+use Rattle.core_tree.specs.Tree.{expression_of, block_of, branches_of, Expression, Block, NoStatement, Branches, NoBranch, MoreBranches, If}
 use Rattle.code_meaning.specs.Code.{Instruction}
 use Rattle.code_meaning.specs.Code as op
-use Rattle.emit_meaning.specs.Codes.{Routine, gives, CodesBlock, CodesBranches, no_statement_code, otherwise_code, last_code, branch_code, if_code, lined}
+use Rattle.emit_meaning.specs.Codes.{Routine, CodesBlock, no_statement_code, otherwise_code, last_code, branch_code, if_code, lined}
 use Rattle.code_lower.specs.declared.place.Place.{Place}
 use Rattle.code_lower.specs.Slots.{Slots, Grows}
 use Rattle.code_lower.specs.Lowered.{State, Serves, Emits, GaveBack, operand_of, is_value}
-use Rattle.code_lower.specs.Statements.{AddsLines, StatementEmits, BlockReaches, BranchesEmit, Guards, landed_on, landed_always}
+use Rattle.code_lower.specs.Statements.{StatementEmits, BlockReaches, BranchesEmit, Guards, landed_on, landed_always}
 use Rattle.code_lower.proofs.Operands.{grows_further, grows_to, serves_before}
 use Rattle.code_lower.proofs.EitherEmits.{seam}
 use Rattle.code_lower.proofs.StatementsEmit.{none_out}

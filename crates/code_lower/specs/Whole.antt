@@ -1,5 +1,5 @@
 -- What is promised of the code of a whole function.
-use Rattle.std.specs.Prelude.{◌≡◌, ℕ, List, ◌++◌, length, map, Option, Some, slice_get}
+use Rattle.std.specs.Prelude.{◌≡◌, List, ◌++◌, length, map, Option, Some, slice_get}
 use Rattle.core_tree.specs.declared.core_type.CoreType.{CoreType}
 use Rattle.core_tree.specs.declared.script.CoreScript.{CoreScript}
 use Rattle.core_tree.specs.declared.script.CoreSet.{CoreSet}

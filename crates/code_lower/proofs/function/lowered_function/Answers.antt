@@ -1,9 +1,9 @@
-use Rattle.std.proofs.Common.{[], ap, subst, ◌∙◌}
+use Rattle.std.proofs.Common.{ap, subst, ◌∙◌}
 use Rattle.core_tree.specs.Tree.{NoStatement, block_of}
 use Rattle.code_lower.specs.Slots.{Slots}
-use Rattle.code_lower.specs.Lowered.{State, known_of}
+use Rattle.code_lower.specs.Lowered.{State}
 use Rattle.code_lower.specs.Statements.{BlockReaches}
-use Rattle.code_lower.proofs.FunctionsCoded.{is_lowered, begun, begun_with}
+use Rattle.code_lower.proofs.FunctionsCoded.{is_lowered, begun_with}
 use Rattle.code_lower.proofs.function.lowered_function.Goals as goal
 
 pub returns : goal.returns

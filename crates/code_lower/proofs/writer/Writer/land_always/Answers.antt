@@ -1,4 +1,4 @@
-use Rattle.std.proofs.Common.{false, map, ap, ◌∙◌, rules}
+use Rattle.std.proofs.Common.{map, ap, ◌∙◌, rules}
 use Rattle.code_lower.specs.Lowered.{State, known_of}
 use Rattle.code_lower.specs.Statements.{landed_always}
 use Rattle.code_lower.proofs.Landed.{landed_always_code, landed_always_is, line_meant}

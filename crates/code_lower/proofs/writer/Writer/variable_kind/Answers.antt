@@ -1,4 +1,4 @@
-use Rattle.std.proofs.Common.{◌<◌, ℕ, subst, rules}
+use Rattle.std.proofs.Common.{◌<◌, subst}
 use Rattle.code_lower.specs.Lowered.{State}
 use Rattle.code_lower.proofs.Globals.{found_within}
 use Rattle.code_lower.proofs.writer.Writer.variable_kind.Goals as goal
