@@ -1,12 +1,11 @@
 -- What `asm` answers, by what reading its listing gave.
-use Rattle.std.proofs.Common.{arith, ℕ, List}
+use Rattle.std.proofs.Common.{◌≡◌, ℕ, List, ap, ◌∙◌, arith}
 use Rattle.std.specs.Prelude.{Option, None, Some, Result, Ok, Err, IfOk}
 use Rattle.std.specs.declared.alloc.Global.{Global}
 use Rattle.std.specs.declared.vec.Vec.{Vec}
 use Rattle.papy_io.specs.Files.{Files}
 use Rattle.pex_listing.specs.declared.faults.ListingRule.TheVariants.{BadLine}
-use Rattle.pex_listing.specs.Lines.{head_lines}
-use Rattle.pex_listing.specs.Opened.{BeginsWith}
+use Rattle.pex_listing.specs.Listing.{listing as listing_of}
 use Rattle.pex_values.specs.Plain.{PlainPex}
 use Rattle.command_files.specs.declared.file_fault.FileFault.{FileFault}
 use Rattle.command_files.specs.declared.file_fault.FileFault.TheVariants as file
@@ -37,14 +36,14 @@ listing_read (Some files) name text (Err file.ReadFault) read assembles = tt
 
 -- ---- the value of a listing
 
-pub assembled : (value : PlainPex) (listing : List ℕ) (result : Result (Vec ℕ Global) FileFault) → SpellsValue value result → BeginsWith (head_lines value) listing → Assembles listing result
-assembled value listing (Ok bytes) spells begins = (value, spells, begins)
-assembled value listing (Err file.OutOfMemory) spells begins = tt
-assembled value listing (Err file.ReadFault) spells begins = absurd spells
-assembled value listing (Err (file.Refused place rule)) spells begins = absurd spells
+pub assembled : (value : PlainPex) (text : List ℕ) (result : Result (Vec ℕ Global) FileFault) → SpellsValue value result → text ≡ listing_of value → Assembles text result
+assembled value text (Ok bytes) spells lists = (value, spells, lists)
+assembled value text (Err file.OutOfMemory) spells lists = tt
+assembled value text (Err file.ReadFault) spells lists = absurd spells
+assembled value text (Err (file.Refused place rule)) spells lists = absurd spells
 
 pub listing_spelled : (holds : Option Files) (name : List ℕ) (text : Vec ℕ Global) (result : Result (Vec ℕ Global) FileFault) → ReadsListed holds name (Ok text) → Assembles text.items result →
     IfOk result (λ bytes. IsAssembled name holds bytes.items)
-listing_spelled None name text (Ok bytes) read (value, spelled, begins) = record { value = value; spelled = spelled; listed = tt }
-listing_spelled (Some files) name text (Ok bytes) read (value, spelled, begins) = record { value = value; spelled = spelled; listed = (text.items, read.1, begins) }
+listing_spelled None name text (Ok bytes) read (value, spelled, lists) = record { value = value; spelled = spelled; listed = tt }
+listing_spelled (Some files) name text (Ok bytes) read (value, spelled, lists) = record { value = value; spelled = spelled; listed = read.1 ∙ ap Some lists }
 listing_spelled holds name text (Err fault) read assembles = tt

@@ -6,10 +6,10 @@ use Rattle.papy_io.specs.Files.{Files, told_bytes, ChangesTold}
 use Rattle.papy_io.specs.WriteFile.{HoldsNow, MayHold}
 use Rattle.pex_codec.specs.Spells.{Spells}
 use Rattle.pex_values.specs.Plain.{PlainPex}
-use Rattle.pex_listing.specs.Lines.{head_lines}
-use Rattle.pex_listing.specs.Opened.{BeginsWith}
+use Rattle.pex_listing.specs.Listing.{listing as listing_of}
 use Rattle.pex_listing.specs.declared.faults.ListingRule.{ListingRule}
 use Rattle.pex_listing.specs.declared.faults.ListingRule.TheVariants.{BadLine}
+use Rattle.papyrus_cmd.specs.Show.{Lists}
 use Rattle.command_files.specs.declared.ending.Ending.{Ending}
 use Rattle.command_files.specs.declared.ending.Ending.TheVariants as ending
 use Rattle.command_files.specs.declared.file_fault.FileFault.{FileFault}
@@ -23,19 +23,15 @@ use Rattle.command_files.specs.declared.refusal.Rule.TheVariants.{Listing}
 abbrev pub limit : ℕ
 limit = 134217728
 
--- the bytes spell a value, with whose first lines, up to the end of the string table, the listing begins
-abbrev pub IsSpelling : List ℕ → List ℕ → Type 0
-IsSpelling listing bytes = (value : PlainPex) × Spells value bytes × BeginsWith (head_lines value) listing
+-- the file of this name holds the listing of the value
+abbrev pub HoldsListing : List ℕ → PlainPex → Files → Type 0
+HoldsListing source value files = told_bytes (Some files) source ≡ Some (listing_of value)
 
--- the file of this name holds a listing that begins with the first lines of the value
-abbrev pub BeginsListing : List ℕ → PlainPex → Files → Type 0
-BeginsListing source value files = (listing : List ℕ) × (told_bytes (Some files) source ≡ Some listing) × BeginsWith (head_lines value) listing
-
--- the bytes spell a value that was read from the listing of this name
+-- the bytes spell the value whose listing the file of this name holds
 pub record IsAssembled (source : List ℕ) (holds : Option Files) (bytes : List ℕ) : Type 0 where
   pub value : PlainPex
   pub spelled : Spells value bytes
-  pub listed : IfSome holds (BeginsListing source value)
+  pub listed : IfSome holds (HoldsListing source value)
 
 -- a line and a rule of listings
 abbrev pub IsListingRefusal : Place → Rule → Type 0
@@ -50,10 +46,10 @@ SpellsValue value (Err ReadFault) = ⊥
 
 -- a listing, assembled or refused
 abbrev pub Assembles : List ℕ → Result (Vec ℕ Global) FileFault → Type 0
-Assembles listing (Ok bytes) = IsSpelling listing bytes.items
-Assembles listing (Err (Refused place rule)) = IsListingRefusal place rule
-Assembles listing (Err OutOfMemory) = Unit {0}
-Assembles listing (Err ReadFault) = ⊥
+Assembles text (Ok bytes) = Lists bytes.items text
+Assembles text (Err (Refused place rule)) = IsListingRefusal place rule
+Assembles text (Err OutOfMemory) = Unit {0}
+Assembles text (Err ReadFault) = ⊥
 
 -- a text is refused so: one of more than 128 MiB at line 0, whatever else it breaks
 pub record RefusesListing (text : List ℕ) (place : Place) (rule : Rule) : Type 0 where

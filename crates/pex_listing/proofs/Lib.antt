@@ -1,6 +1,7 @@
-pub mod Digits
 pub mod Taken
-mod Views
+pub mod Spelt
+pub mod Parts
+pub mod Whole
 pub mod Writing
 pub mod StringLemmas
 pub mod Shown

@@ -1,86 +1,120 @@
--- Lines that are read one after another.
-use Rattle.std.proofs.Common.{◌≡◌, ◌<◌, ℕ, ◌&&◌, not, cond, Bool, true, List, [], ◌∷◌, ◌++◌, length, refl, sym, subst, ap, ◌∙◌, append_assoc, append-nil}
-use Rattle.std.specs.Prelude.{Option, Some, IfSome, IsTrue, codes}
+-- Fields and lines that are read one after another.
+use Rattle.std.proofs.Common.{◌≡◌, ℕ, ◌+◌, Bool, true, List, [], ◌∷◌, ◌++◌, length, refl, sym, subst, ap, ◌∙◌, append_assoc, length-append, arith}
 use Rattle.std.specs.List.{flat_map}
-use Rattle.std.specs.Fmt.{decimal}
 use Rattle.std.proofs.lemmas.List.{flat_map_more}
 use Rattle.pex_listing.specs.declared.listing.Listing.{Listing}
-use Rattle.std.proofs.lemmas.Bool.{and_parts, not-true, cond-false, ltb-true}
-use Rattle.pex_values.specs.Plain.{PlainPex}
-use Rattle.pex_listing.specs.Lines.{quoted, string_line, first_line, header_lines, table_lines, head_lines}
-use Rattle.pex_listing.specs.Numbers.{are_digits}
-use Rattle.papy_base.specs.Digits.{decimal_number, has_leading_zero}
-use Rattle.pex_listing.specs.Opened.{word_of, fields_left, Opens, TakesField, Remains, TakesLines, BeginsWith}
-use Rattle.papy_base.proofs.DigitLemmas.{canonical_digits}
+use Rattle.pex_listing.specs.Lines.{field}
+use Rattle.pex_listing.specs.Opened.{fields_left, behind, text_left, Good, Cuts, Notes, Spends, Takes, Gives, Begun, Ends, TakesLines}
 
-pub takes_nothing : (l : Listing) → TakesLines [] l l
-takes_nothing l text opens = record { behind = text; whole = refl; opened = opens }
+-- ---- fields
 
-pub takes_more : (first second : List ℕ) (old between new : Listing) → TakesLines first old between → TakesLines second between new → TakesLines (first ++ second) old new
-takes_more first second old between new a b text opens =
-    let x : Remains first text between = a text opens in
-    let y : Remains second x.behind new = b x.behind x.opened in
-    record { behind = y.behind; whole = x.whole ∙ (ap (λ t. first ++ t) y.whole ∙ sym (append_assoc first second y.behind)); opened = y.opened }
+pub takes_nothing : (l : Listing) → Takes [] 0 l l
+takes_nothing l = record { good = λ good. good; taken = λ good. refl; room = λ good. omega arith; rest = refl }
 
--- one line more of a list of lines
-pub takes_one_more : {X : Type 0} (f : X → List ℕ) (xs : List X) (x : X) (old between new : Listing) → TakesLines (flat_map f xs) old between → TakesLines (f x) between new → TakesLines (flat_map f (xs ++ x ∷ [])) old new
-takes_one_more f xs x old between new a b =
-    subst (λ lines. TakesLines lines old new) (flat_map_more f [] xs x) (takes_more (flat_map f xs) (f x) old between new a b)
-
--- the fields of the open line were read to its end, and the next line was opened
-pub takes_line : (word fields : List ℕ) (old last new : Listing) → word_of old.first_word ≡ Some word → fields_left old ≡ fields → last.rest.now ≡ old.rest.now → Opens last.rest.now new → TakesLines (word ++ (fields ++ 10 ∷ [])) old new
-takes_line word fields old last new is_word left same opened text opens =
-    let P : Option (List ℕ) → Type 0 = λ o. IfSome o (λ w. text ≡ w ++ (fields_left old ++ 10 ∷ old.rest.now)) in
-    let whole : text ≡ word ++ (fields_left old ++ 10 ∷ old.rest.now) = subst P is_word opens in
-    let by_fields : text ≡ word ++ (fields ++ 10 ∷ old.rest.now) = whole ∙ ap (λ f. word ++ (f ++ 10 ∷ old.rest.now)) left in
-    record {
-      behind = old.rest.now;
-      whole = by_fields ∙ sym (append_assoc word (fields ++ 10 ∷ []) old.rest.now ∙ ap (λ t. word ++ t) (append_assoc fields (10 ∷ []) old.rest.now));
-      opened = subst (λ t. Opens t new) same opened;
-    }
-
--- a line with a string
-pub takes_string : (word text : List ℕ) (old last new : Listing) → word_of old.first_word ≡ Some word → TakesField (quoted text) old last → fields_left last ≡ [] → IsTrue last.is_canonical → Opens last.rest.now new → TakesLines (string_line word text) old new
-takes_string word text old last new is_word field none canonical opened =
-    let left : fields_left old ≡ 32 ∷ quoted text = field.taken canonical ∙ (ap (λ f. 32 ∷ quoted text ++ f) none ∙ append-nil (32 ∷ quoted text)) in
-    subst (λ lines. TakesLines lines old new) (sym (append_assoc word (32 ∷ quoted text) (10 ∷ [])))
-    (takes_line word (32 ∷ quoted text) old last new is_word left field.rest opened)
-
--- the first line
-pub takes_version : (minor time : ℕ) (old between last new : Listing) → word_of old.first_word ≡ Some (codes "pex") → TakesField (decimal minor) old between → TakesField (decimal time) between last → fields_left last ≡ [] → IsTrue last.is_canonical → Opens last.rest.now new → TakesLines (first_line minor time) old new
-takes_version minor time old between last new is_first_word first second none canonical opened =
-    let behind : fields_left between ≡ 32 ∷ decimal time = second.taken canonical ∙ (ap (λ f. 32 ∷ decimal time ++ f) none ∙ append-nil (32 ∷ decimal time)) in
-    let left : fields_left old ≡ 32 ∷ decimal minor ++ 32 ∷ decimal time = first.taken (second.canonical canonical) ∙ ap (λ f. 32 ∷ decimal minor ++ f) behind in
-    let lines = takes_line (codes "pex") (32 ∷ decimal minor ++ 32 ∷ decimal time) old last new is_first_word left (second.rest ∙ first.rest) opened in
-    subst (λ lines. TakesLines lines old new) (ap (λ t. codes "pex " ++ t) (append_assoc (decimal minor) (32 ∷ decimal time) (10 ∷ []))) lines
-
--- a number without sign
-pub takes_number : (field digits : List ℕ) (is_negative : Bool) (n : ℕ) (old between new : Listing)
-    → fields_left old ≡ 32 ∷ field ++ fields_left between → between.first_word ≡ old.first_word → between.is_canonical ≡ old.is_canonical → between.rest.now ≡ old.rest.now
-    → field ≡ cond is_negative (45 ∷ digits) digits → are_digits digits ≡ true → decimal_number digits ≡ Some n
-    → new.is_canonical ≡ (between.is_canonical && (not is_negative && not (has_leading_zero digits)))
-    → new.first_word ≡ between.first_word → fields_left new ≡ fields_left between → new.rest.now ≡ between.rest.now → TakesField (decimal n) old new
-takes_number field digits is_negative n old between new left first_word canonical rest signed are number noted first_word-2 left-2 rest-2 = record {
-  first_word = first_word-2 ∙ first_word;
-  rest = rest-2 ∙ rest;
-  canonical = λ (is : IsTrue new.is_canonical). sym canonical ∙ (and_parts _ _ (sym noted ∙ is)).0;
-  taken = λ (is : IsTrue new.is_canonical).
-      let parts = and_parts (not is_negative) (not (has_leading_zero digits)) (and_parts between.is_canonical (not is_negative && not (has_leading_zero digits)) (sym noted ∙ is)).1 in
-      let same : field ≡ digits = signed ∙ cond-false is_negative _ _ (not-true _ parts.0) in
-      let some : 0 < length digits = ltb-true 0 (length digits) (and_parts _ _ are).0 in
-      let spelled : field ≡ decimal n = same ∙ canonical_digits digits n some number (not-true _ parts.1) in
-      left ∙ (ap (λ f. 32 ∷ f ++ fields_left between) spelled ∙ ap (λ f. 32 ∷ decimal n ++ f) (sym left-2));
+pub takes_more : {first second : List ℕ} {m n : ℕ} {old between new : Listing} → Takes first m old between → Takes second n between new → Takes (first ++ second) (m + n) old new
+takes_more {first} {second} {m} {n} {old} {between} {new} a b = record {
+  good = λ good. a.good (b.good good);
+  taken = λ good. a.taken (b.good good) ∙ (ap (λ t. first ++ t) (b.taken good) ∙ sym (append_assoc first second (fields_left new)));
+  room = λ good. omega (arith, a.room (b.good good), b.room good);
+  rest = b.rest ∙ a.rest;
 }
 
--- the lines up to the end of the string table
-pub takes_head : (v : PlainPex) (l0 l1 l2 l3 l4 l5 : Listing)
-    → TakesLines (first_line v.minor v.time) l0 l1 → TakesLines (string_line (codes "source") v.source) l1 l2 → TakesLines (string_line (codes "user") v.user) l2 l3
-    → TakesLines (string_line (codes "machine") v.machine) l3 l4 → TakesLines (table_lines v.strings) l4 l5 → (text : List ℕ) → Opens text l0 → BeginsWith (head_lines v) text
-takes_head v l0 l1 l2 l3 l4 l5 first source user machine table text opens =
-    let s = string_line (codes "source") v.source in
-    let u = string_line (codes "user") v.user in
-    let m = string_line (codes "machine") v.machine in
-    let header : TakesLines (header_lines v.source v.user v.machine) l1 l4 = takes_more s (u ++ m) l1 l2 l4 source (takes_more u m l2 l3 l4 user machine) in
-    let behind : TakesLines (header_lines v.source v.user v.machine ++ table_lines v.strings) l1 l5 = takes_more (header_lines v.source v.user v.machine) (table_lines v.strings) l1 l4 l5 header table in
-    let all : Remains (head_lines v) text l5 = takes_more (first_line v.minor v.time) (header_lines v.source v.user v.machine ++ table_lines v.strings) l0 l1 l5 first behind text opens in
-    record { behind = all.behind; whole = all.whole }
+-- a word that is always spelled so
+pub takes_cut : {text fields : List ℕ} {old new : Listing} → fields ≡ field text → Cuts text old new → Takes fields 0 old new
+takes_cut {text} {fields} {old} {new} is cut = record {
+  good = cut.good;
+  taken = λ good. cut.taken good ∙ ap (λ t. t ++ fields_left new) (sym is);
+  room = λ good. omega (arith, cut.room);
+  rest = cut.rest;
+}
+
+-- a field of which it was noted whether it is spelled so
+pub takes_noted : {text : List ℕ} {holds : Bool} {old between new : Listing} (spelled : List ℕ) → Cuts text old between → Notes holds between new → (holds ≡ true → text ≡ spelled) → Takes (field spelled) 0 old new
+takes_noted {text} {holds} {old} {between} {new} spelled cut note same = record {
+  good = λ good. cut.good (note.good good);
+  taken = λ good. cut.taken (note.good good) ∙ (ap (λ t. field t ++ fields_left between) (same (note.this good)) ∙ ap (λ t. field spelled ++ t) (sym note.fields));
+  room = λ good. omega (arith, cut.room, note.room);
+  rest = note.rest ∙ cut.rest;
+}
+
+-- bytes that are taken behind fields
+pub takes_spent : {text : List ℕ} {m n : ℕ} {old between new : Listing} → Takes text m old between → Spends n between new → Takes text (m + n) old new
+takes_spent {text} {m} {n} {old} {between} {new} a spend = record {
+  good = λ good. a.good (spend.good good);
+  taken = λ good. a.taken (spend.good good) ∙ ap (λ t. text ++ t) (sym spend.fields);
+  room = λ good. omega (arith, a.room (spend.good good), spend.room good);
+  rest = spend.rest ∙ a.rest;
+}
+
+-- bytes that are taken before them
+pub spent_takes : {text : List ℕ} {m n : ℕ} {old between new : Listing} → Spends m old between → Takes text n between new → Takes text (m + n) old new
+spent_takes {text} {m} {n} {old} {between} {new} spend a = record {
+  good = λ good. spend.good (a.good good);
+  taken = λ good. sym spend.fields ∙ a.taken good;
+  room = λ good. omega (arith, a.room good, spend.room (a.good good));
+  rest = a.rest ∙ spend.rest;
+}
+
+pub takes_as : {text : List ℕ} {m n : ℕ} {old new : Listing} → m ≡ n → Takes text m old new → Takes text n old new
+takes_as {text} {m} {n} {old} {new} same takes = subst (λ k. Takes text k old new) same takes
+
+pub takes_is : {text other : List ℕ} {n : ℕ} {old new : Listing} → text ≡ other → Takes text n old new → Takes other n old new
+takes_is {text} {other} {n} {old} {new} same takes = subst (λ t. Takes t n old new) same takes
+
+-- one field more of a list of fields
+pub takes_one_more : {X : Type 0} (f g : X → List ℕ) (xs : List X) (x : X) (old between new : Listing) → Takes (flat_map f xs) (length (flat_map g xs)) old between → Takes (f x) (length (g x)) between new
+    → Takes (flat_map f (xs ++ x ∷ [])) (length (flat_map g (xs ++ x ∷ []))) old new
+takes_one_more f g xs x old between new a b =
+    let long = sym (length-append (flat_map g xs) (g x)) ∙ ap length (flat_map_more g [] xs x) in
+    subst (λ text. Takes text (length (flat_map g (xs ++ x ∷ []))) old new) (flat_map_more f [] xs x) (takes_as long (takes_more a b))
+
+-- ---- a line
+
+pub begun_more : {text fields : List ℕ} {m n : ℕ} {first between new : Listing} → Begun text m first between → Takes fields n between new → Begun (text ++ fields) (m + n) first new
+begun_more {text} {fields} {m} {n} {first} {between} {new} begun takes = record {
+  read = λ good.
+      begun.read (takes.good good)
+      ∙ (ap (λ t. text ++ (t ++ 10 ∷ between.rest.now)) (takes.taken good)
+      ∙ (ap (λ t. text ++ ((fields ++ fields_left new) ++ 10 ∷ t)) (sym takes.rest)
+      ∙ (ap (λ t. text ++ t) (append_assoc fields (fields_left new) (10 ∷ new.rest.now)) ∙ sym (append_assoc text fields (behind new)))));
+  room = λ good. omega (arith, begun.room (takes.good good), takes.room good);
+}
+
+pub begun_spent : {text : List ℕ} {m n : ℕ} {first between new : Listing} → Begun text m first between → Spends n between new → Begun text (m + n) first new
+begun_spent {text} {m} {n} {first} {between} {new} begun spend = record {
+  read = λ good. begun.read (spend.good good) ∙ (ap (λ t. text ++ (t ++ 10 ∷ between.rest.now)) (sym spend.fields) ∙ ap (λ t. text ++ (fields_left new ++ 10 ∷ t)) (sym spend.rest));
+  room = λ good. omega (arith, begun.room (spend.good good), spend.room good);
+}
+
+pub begun_noted : {text : List ℕ} {m : ℕ} {holds : Bool} {first between new : Listing} → Begun text m first between → Notes holds between new → Begun text m first new
+begun_noted {text} {m} {holds} {first} {between} {new} begun note = record {
+  read = λ good. begun.read (note.good good) ∙ (ap (λ t. text ++ (t ++ 10 ∷ between.rest.now)) (sym note.fields) ∙ ap (λ t. text ++ (fields_left new ++ 10 ∷ t)) (sym note.rest));
+  room = λ good. omega (arith, begun.room (note.good good), note.room);
+}
+
+pub ended : {text : List ℕ} {m : ℕ} {first last new : Listing} → Begun text m first last → Ends last new → TakesLines (text ++ 10 ∷ []) m first new
+ended {text} {m} {first} {last} {new} begun ends = record {
+  read =
+      begun.read ends.good
+      ∙ (ap (λ t. text ++ (t ++ 10 ∷ last.rest.now)) ends.last
+      ∙ (ap (λ t. text ++ 10 ∷ t) (sym ends.opened) ∙ sym (append_assoc text (10 ∷ []) (text_left new))));
+  room = omega (arith, begun.room ends.good, ends.room);
+}
+
+-- ---- lines
+
+pub lines_nothing : (l : Listing) → TakesLines [] 0 l l
+lines_nothing l = record { read = refl; room = omega arith }
+
+pub lines_more : {first second : List ℕ} {m n : ℕ} {old between new : Listing} → TakesLines first m old between → TakesLines second n between new → TakesLines (first ++ second) (m + n) old new
+lines_more {first} {second} {m} {n} {old} {between} {new} a b = record {
+  read = a.read ∙ (ap (λ t. first ++ t) b.read ∙ sym (append_assoc first second (text_left new)));
+  room = omega (arith, a.room, b.room);
+}
+
+pub lines_as : {lines other : List ℕ} {m n : ℕ} {old new : Listing} → lines ≡ other → m ≡ n → TakesLines lines m old new → TakesLines other n old new
+lines_as {lines} {other} {m} {n} {old} {new} same as_many takes = record { read = takes.read ∙ ap (λ t. t ++ text_left new) same; room = omega (arith, takes.room) }
+
+-- the same lines, and as many bytes
+pub lines_of : {lines : List ℕ} {m n : ℕ} {old new : Listing} → m ≡ n → TakesLines lines m old new → TakesLines lines n old new
+lines_of {lines} {m} {n} {old} {new} as_many takes = record { read = takes.read; room = omega (arith, takes.room) }

@@ -72,7 +72,3 @@ header_lines source user machine = string_line (codes "source") source ++ (strin
 -- a line for each string of the table
 abbrev pub table_lines : List (List ℕ) → List ℕ
 table_lines strings = flat_map (string_line (codes "string")) strings
-
--- the lines that a listing begins with, up to the end of the string table
-abbrev pub head_lines : PlainPex → List ℕ
-head_lines v = first_line v.minor v.time ++ (header_lines v.source v.user v.machine ++ table_lines v.strings)

@@ -38,6 +38,11 @@ abbrev pub entries : Option PlainDebug → List PlainLines
 entries None = []
 entries (Some d) = d.functions
 
+-- what the size field of an object counts
+abbrev pub size_form : SizeForm → List ℕ
+size_form Counted = codes " counted"
+size_form Bare = codes " bare"
+
 module _ (spelled : ℕ → List ℕ) where
   -- a reference as a field
   abbrev pub name : ℕ → List ℕ
@@ -92,10 +97,6 @@ module _ (spelled : ℕ → List ℕ) where
 
   abbrev pub property : PlainProperty → List ℕ
   property p = property_line p ++ accessor (codes "read") p.read ++ accessor (codes "write") p.write
-
-  abbrev pub size_form : SizeForm → List ℕ
-  size_form Counted = codes " counted"
-  size_form Bare = codes " bare"
 
   unfoldable pub object_line : PlainObject → List ℕ
   object_line o = codes "object" ++ name o.name ++ size_form o.size_form ++ name o.parent ++ name o.doc ++ number o.flags ++ name o.auto_state ++ line_end

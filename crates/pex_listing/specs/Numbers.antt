@@ -1,8 +1,7 @@
 -- Which numbers digits spell.
-use Rattle.std.specs.Prelude.{ℕ, Bool, List, length, Option, Some, None, ◌==◌, ◌&&◌, nat_lt, if◌then◌else◌}
+use Rattle.std.specs.Prelude.{ℕ, Bool, List, length, Option, Some, None, ◌&&◌, nat_lt, if◌then◌else◌}
 use Rattle.std.specs.Char.{is_ascii_digit, is_digit, digit_value}
 use Rattle.std.specs.List.{list_all}
-use Rattle.std.specs.Str.Parse.{digits_value}
 
 -- one decimal digit or more, and nothing else
 abbrev pub are_digits : List ℕ → Bool
@@ -14,7 +13,3 @@ is_hex_digit digit = is_digit digit 16
 -- the value of a hexadecimal digit of either case
 abbrev pub hex_value : ℕ → Option ℕ
 hex_value digit = if is_hex_digit digit then Some (digit_value digit) else None
-
--- the number of eight hexadecimal digits of either case
-abbrev pub hex_number : List ℕ → Option ℕ
-hex_number digits = if (length digits == 8) && list_all is_hex_digit digits then Some (digits_value 16 digits) else None

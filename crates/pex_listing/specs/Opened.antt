@@ -1,48 +1,83 @@
--- What an open line and the text behind it are.
-use Rattle.std.specs.Prelude.{◌≡◌, ℕ, List, [], ◌∷◌, ◌++◌, Option, Some, None, IfSome, IsTrue, unwrap_or, option_map}
+-- What is left of a listing while its lines are read, and what reading a part of it takes.
+use Rattle.std.specs.Prelude.{◌≡◌, ℕ, ◌+◌, Bool, true, List, [], ◌∷◌, ◌++◌, Option, Some, None, unwrap_or, option_map}
+use Rattle.pex_listing.specs.Lines.{field}
+use Rattle.pex_listing.specs.Listing.{opcode_name}
 use Rattle.pex_listing.specs.declared.listing.FirstWord.{FirstWord}
 use Rattle.pex_listing.specs.declared.listing.FirstWord.TheVariants as word
 use Rattle.pex_listing.specs.declared.listing.Listing.{Listing}
 
--- a first word that is no opcode's name
-abbrev pub word_of : FirstWord → Option (List ℕ)
-word_of (word.Word spelled) = Some spelled.now
-word_of word.Opcode = None
-word_of word.End = None
-
--- the two are the same word, both an opcode's name, or both the end
-abbrev pub SameWord : FirstWord → FirstWord → Type 0
-SameWord (word.Word spelled) (word.Word other) = spelled.now ≡ other.now
-SameWord word.Opcode word.Opcode = Unit {0}
-SameWord word.End word.End = Unit {0}
-SameWord _ _ = ⊥
-
 -- the fields of the open line that weren't read yet, each behind its space
 abbrev pub fields_left : Listing → List ℕ
-fields_left l = unwrap_or (option_map (λ fields. 32 ∷ fields.now) l.fields) []
+fields_left l = unwrap_or (option_map (λ fields. field fields.now) l.fields) []
 
--- the text begins with the open line, of which no field was read, where that is no instruction
-abbrev pub Opens : List ℕ → Listing → Type 0
-Opens text l = IfSome (word_of l.first_word) (λ word. text ≡ word ++ (fields_left l ++ 10 ∷ l.rest.now))
+-- what is left of the text behind the fields that were read
+abbrev pub behind : Listing → List ℕ
+behind l = fields_left l ++ 10 ∷ l.rest.now
 
--- a field of the open line was read; where it and all before it are in their one spelling, it is this text
-pub record TakesField (field : List ℕ) (old new : Listing) : Type 0 where
-  pub first_word : new.first_word ≡ old.first_word
+abbrev pub text_from : FirstWord → Listing → List ℕ
+text_from (word.Word spelled) l = spelled.now ++ behind l
+text_from (word.Opcode code) l = opcode_name code ++ behind l
+text_from word.End l = l.rest.now
+
+-- what is left of the text, the open line with it, of which no field was read
+abbrev pub text_left : Listing → List ℕ
+text_left l = text_from l.first_word l
+
+-- the open line breaks no rule so far
+abbrev pub Good : Listing → Type 0
+Good l = l.broken ≡ None
+
+-- a rule was noted unless a test holds
+pub record Notes (holds : Bool) (old new : Listing) : Type 0 where
+  pub good : Good new → Good old
+  pub this : Good new → holds ≡ true
+  pub fields : fields_left new ≡ fields_left old
   pub rest : new.rest.now ≡ old.rest.now
-  pub canonical : IsTrue new.is_canonical → IsTrue old.is_canonical
-  pub taken : IsTrue new.is_canonical → fields_left old ≡ 32 ∷ field ++ fields_left new
+  pub room : new.room.left ≡ old.room.left
 
--- the text begins with these lines, and what follows them is open
-pub record Remains (lines text : List ℕ) (new : Listing) : Type 0 where
-  pub behind : List ℕ
-  pub whole : text ≡ lines ++ behind
-  pub opened : Opens behind new
+-- so many bytes were taken from the room
+pub record Spends (bytes : ℕ) (old new : Listing) : Type 0 where
+  pub good : Good new → Good old
+  pub room : Good new → new.room.left + bytes ≡ old.room.left
+  pub fields : fields_left new ≡ fields_left old
+  pub rest : new.rest.now ≡ old.rest.now
 
--- these lines were read
-abbrev pub TakesLines : List ℕ → Listing → Listing → Type 0
-TakesLines lines old new = (text : List ℕ) → Opens text old → Remains lines text new
+-- a field was read
+pub record Cuts (text : List ℕ) (old new : Listing) : Type 0 where
+  pub good : Good new → Good old
+  pub taken : Good new → fields_left old ≡ field text ++ fields_left new
+  pub rest : new.rest.now ≡ old.rest.now
+  pub room : new.room.left ≡ old.room.left
 
--- the text begins with these lines
-pub record BeginsWith (lines text : List ℕ) : Type 0 where
-  pub behind : List ℕ
-  pub whole : text ≡ lines ++ behind
+-- fields were read; where the line is good, they are this text, and so many bytes were taken for them
+pub record Takes (text : List ℕ) (bytes : ℕ) (old new : Listing) : Type 0 where
+  pub good : Good new → Good old
+  pub taken : Good new → fields_left old ≡ text ++ fields_left new
+  pub room : Good new → new.room.left + bytes ≡ old.room.left
+  pub rest : new.rest.now ≡ old.rest.now
+
+-- the same of fields whose value may stand there
+pub record Gives (Holds : Type 0) (text : List ℕ) (bytes : ℕ) (old new : Listing) : Type 0 where
+  pub takes : Takes text bytes old new
+  pub holds : Good new → Holds
+
+-- a line was opened; where it is good, its first word and the fields that were read are this text, and so many bytes were taken for it
+pub record Begun (text : List ℕ) (bytes : ℕ) (first now : Listing) : Type 0 where
+  pub read : Good now → text_left first ≡ text ++ behind now
+  pub room : Good now → now.room.left + bytes ≡ first.room.left
+
+-- the open line was read to its end and is good, and the next one was opened
+pub record Ends (old new : Listing) : Type 0 where
+  pub last : fields_left old ≡ []
+  pub good : Good old
+  pub opened : text_left new ≡ old.rest.now
+  pub room : new.room.left ≡ old.room.left
+
+-- these lines were read, and so many bytes were taken for them
+pub record TakesLines (lines : List ℕ) (bytes : ℕ) (old new : Listing) : Type 0 where
+  pub read : text_left old ≡ lines ++ text_left new
+  pub room : new.room.left + bytes ≡ old.room.left
+
+-- the rest of the open line was read, and lines behind it; of their bytes so many were taken before
+abbrev pub Continues : List ℕ → ℕ → ℕ → Listing → Listing → Type 0
+Continues rest bytes before old new = (text : List ℕ) (first : Listing) (m n : ℕ) → Begun text m first old → n + before ≡ m + bytes → TakesLines (text ++ rest) n first new

@@ -1,9 +1,8 @@
 -- What reading a part of a listing gives.
-use Rattle.std.specs.Prelude.{◌≡◌, ℕ, ◌+◌, ◌<◌, ◌≤◌, ◌^◌, Bool, true, false, List, [], length, Option, Some, None, is_some, IfSome, option_map}
+use Rattle.std.specs.Prelude.{◌≡◌, ℕ, ◌+◌, ◌<◌, ◌^◌, Bool, true, false, List, ◌++◌, codes, length, Option, Some, None, is_some, IfSome, option_map}
 use Rattle.std.specs.List.{flat_map, AllByRecursion}
 use Rattle.pex_values.specs.declared.debug.PexDebug.{PexDebug}
 use Rattle.pex_values.specs.declared.debug.PexLines.{PexLines}
-use Rattle.pex_values.specs.declared.values.Datum.{Datum}
 use Rattle.pex_values.specs.declared.values.Instruction.{Instruction}
 use Rattle.pex_values.specs.declared.values.PexFunction.{PexFunction}
 use Rattle.pex_values.specs.declared.values.PexObject.{PexObject}
@@ -11,38 +10,23 @@ use Rattle.pex_values.specs.declared.values.PexProperty.{PexProperty}
 use Rattle.pex_values.specs.declared.values.PexState.{PexState}
 use Rattle.pex_values.specs.Fit.{IsCounted, FitsInstruction, FitsFunction, FitsState, FitsProperty, FitsObject, FitsDebug}
 use Rattle.pex_values.specs.Plain.{plain_instruction, plain_function, plain_named, plain_state, plain_property, plain_object, plain_lines, plain_debug}
-use Rattle.pex_values.specs.Shape.{IsShapedDatum, IsShapedInstruction, IsShapedFunction, IsShapedNamed, IsShapedState, IsShapedProperty, IsShapedObject, IsShapedLines, IsShapedDebug}
-use Rattle.pex_values.specs.Spelling.{datum, function, optional, debug}
+use Rattle.pex_values.specs.Shape.{IsShapedInstruction, IsShapedFunction, IsShapedNamed, IsShapedState, IsShapedProperty, IsShapedObject, IsShapedLines, IsShapedDebug}
+use Rattle.pex_values.specs.Spelling as spell
+use Rattle.pex_listing.specs.Lines.{line_end, number}
+use Rattle.pex_listing.specs.Listing as form
+use Rattle.pex_listing.specs.Opened.{TakesLines}
+use Rattle.pex_listing.specs.declared.listing.Listing.{Listing}
 
--- the part may stand in the value, and its bytes were taken from the room
-pub record Reads {T : Type 0} (Holds : T → Type 0) (spelling : T → List ℕ) (old new : ℕ) (part : T) : Type 0 where
-  pub holds : Holds part
-  pub room : new + length (spelling part) ≤ old
-  pub less : new < old
-
--- each part may stand in the value, they are few enough for a count, and their bytes were taken from the room
-pub record ReadsAll {T : Type 0} (Holds : T → Type 0) (spelling : T → List ℕ) (old new : ℕ) (parts : List T) : Type 0 where
+-- these parts were read, which may stand in the value, and are few enough for a count
+pub record ReadsAll {T : Type 0} (Holds : T → Type 0) (spelling lines : T → List ℕ) (old new : Listing) (parts : List T) : Type 0 where
   pub each : AllByRecursion Holds parts
   pub counted : length parts < 2 ^ 16
-  pub room : new + length (flat_map spelling parts) ≤ old
-
--- values whose bytes were taken from the room
-pub record ReadsData (strings old new : ℕ) (values : List Datum) : Type 0 where
-  pub each : AllByRecursion (IsShapedDatum strings) values
-  pub few : new + length values ≤ old
-  pub room : new + length (flat_map datum values) ≤ old
+  pub takes : TakesLines (flat_map lines parts) (length (flat_map spelling parts)) old new
 
 -- the bytes of the number of the values that follow, where some may follow
 abbrev pub more_bytes : Bool → ℕ
 more_bytes true = 5
 more_bytes false = 0
-
--- the values that follow, of which there are none where none may follow; their bytes and those of their number were taken from the room
-pub record ReadsMore (strings : ℕ) (may_follow : Bool) (old new : ℕ) (values : List Datum) : Type 0 where
-  pub each : AllByRecursion (IsShapedDatum strings) values
-  pub few : new + length values ≤ old
-  pub none : may_follow ≡ false → values ≡ []
-  pub room : new + more_bytes may_follow + length (flat_map datum values) ≤ old
 
 -- which parts may stand in a value with so many strings
 
@@ -73,11 +57,18 @@ least_function true = 15
 least_function false = 0
 
 -- a function that stands exactly where it is asked for; its least bytes were taken from the room before
-pub record ReadsAccessor (strings : ℕ) (asked : Bool) (old new : ℕ) (f : Option PexFunction) : Type 0 where
+pub record ReadsAccessor (strings : ℕ) (spelled : ℕ → List ℕ) (word : List ℕ) (asked : Bool) (old new : Listing) (f : Option PexFunction) : Type 0 where
   pub asked_for : is_some (option_map plain_function f) ≡ asked
   pub shaped : IfSome (option_map plain_function f) (IsShapedFunction strings)
   pub fits : IfSome (option_map plain_function f) FitsFunction
-  pub room : new + length (optional function (option_map plain_function f)) ≤ old + least_function asked
+  pub bytes : ℕ
+  pub whole : bytes + least_function asked ≡ length (spell.optional spell.function (option_map plain_function f))
+  pub takes : TakesLines (form.accessor spelled word (option_map plain_function f)) bytes old new
+
+-- the line before the debug information
+abbrev pub debug_start : Option ℕ → List ℕ
+debug_start None = codes "nodebug" ++ line_end
+debug_start (Some time) = codes "debug" ++ number time ++ line_end
 
 -- the bytes of the debug information with no entries, beyond its flag
 abbrev pub debug_rest : Option ℕ → ℕ
@@ -85,7 +76,10 @@ debug_rest None = 0
 debug_rest (Some time) = 10
 
 -- the debug information; the bytes of its flag and its time were taken from the room before
-pub record ReadsDebug (strings : ℕ) (time : Option ℕ) (old new : ℕ) (d : Option PexDebug) : Type 0 where
+pub record ReadsDebug (strings : ℕ) (spelled : ℕ → List ℕ) (time : Option ℕ) (old new : Listing) (d : Option PexDebug) : Type 0 where
   pub shaped : IfSome (option_map plain_debug d) (IsShapedDebug strings)
   pub fits : IfSome (option_map plain_debug d) FitsDebug
-  pub room : new + length (debug (option_map plain_debug d)) ≤ old + 1 + debug_rest time
+  pub start : debug_start time ≡ form.debug_line (option_map plain_debug d)
+  pub bytes : ℕ
+  pub whole : bytes + 1 + debug_rest time ≡ length (spell.debug (option_map plain_debug d))
+  pub takes : TakesLines (flat_map (form.lines spelled) (form.entries (option_map plain_debug d))) bytes old new

@@ -1,16 +1,19 @@
 //! Listings to values.
 
-ghost use Rattle.std.specs.Prelude.{◌≡◌, ℕ, List, ◌+◌, ◌<◌, ◌^◌, ◌⊎◌, length, vec_len, IfOk, IfSome};
+ghost use Rattle.std.specs.Prelude.{◌≡◌, ◌++◌, codes, ◌+◌, ◌<◌, ◌^◌, ◌⊎◌, length, vec_len, IfOk, IfSome};
+ghost use Rattle.std.specs.List.{flat_map, AllByRecursion};
 ghost use Rattle.pex_values.specs.Fit.{Fits, IsCounted};
 ghost use Rattle.pex_values.specs.Plain.{plain, plain_lines};
 ghost use Rattle.pex_values.specs.Shape.{IsWellShaped, IsShapedFlag};
 ghost use Rattle.pex_values.specs.Spelling as spell;
-ghost use Rattle.pex_listing.specs.Lines.{first_line, string_line, table_lines, head_lines};
-ghost use Rattle.pex_listing.specs.Opened.{BeginsWith, Opens, TakesLines};
-ghost use Rattle.pex_listing.specs.Reading.{ReadsAll, HoldsLines, ReadsDebug, debug_rest};
+ghost use Rattle.pex_listing.specs.Lines.{first_line, line_end, number, string_line};
+ghost use Rattle.pex_listing.specs.Listing as form;
+ghost use Rattle.pex_listing.specs.Opened.{Gives, TakesLines, text_left};
+ghost use Rattle.pex_listing.specs.Reading.{ReadsAll, HoldsLines, ReadsDebug, debug_rest, debug_start};
+ghost use Rattle.pex_listing.specs.Spelled.{spelled_in};
 
-use crate::faults::{BAD_LINE, ListingFault, Read, at_line};
-use crate::listing::{FirstWord, Item, Listing, Room, check_place, read_all};
+use crate::faults::{BAD_LINE, ListingFault, ListingRule, Read, at_line};
+use crate::listing::{Item, Listing, MOST_ITEMS, read_all};
 use crate::strings::StringWords;
 use papy_base::Text;
 use pex_values::{Pex, PexDebug, PexLines};
@@ -19,54 +22,57 @@ use std::alloc::Global;
 /// The first line: the minor version and the time.
 fn read_version(listing: &mut Listing) -> Read<(u8, u64)>
     ensures shaped { IfOk result (λ v. ((v.0 ≡ 1) ⊎ (v.0 ≡ 2)) × (v.1 < 2 ^ 64)) }
-    ensures line { IfOk result (λ v. TakesLines (first_line v.0 v.1) listing.old listing.new) }
+    ensures line { IfOk result (λ v. TakesLines (first_line v.0 v.1) 0 listing.old listing.new) }
 {
     listing.expect(b"pex")?;
-    let minor = listing.unsigned_8()?;
-    if minor != 1 && minor != 2 {
-        return Err(BAD_LINE);
-    }
-    let time = listing.unsigned(u64::MAX)?;
-    listing.end_of_line()?;
+    let minor = listing.unsigned_8();
+    listing.check(minor == 1 || minor == 2, ListingRule::BadLine);
+    let time = listing.unsigned(u64::MAX);
     listing.next_line()?;
     Ok((minor, time))
 }
 
-/// A line with a string behind this word, which must come.
-fn read_string(listing: &mut Listing, room: &mut Room, word: &[u8]) -> Read<Text>
-    ensures room { IfOk result (λ text. IsCounted text × (room.new.left + length text ≡ room.old.left)) }
-    ensures line { IfOk result (λ text. TakesLines (string_line word.now text) listing.old listing.new) }
+/// A line with a string behind this word, which must come. So many bytes are taken beside those of the string.
+fn read_string(listing: &mut Listing, word: &[u8], beside: u32) -> Read<Text>
+    ensures counted { IfOk result (λ text. IsCounted text) }
+    ensures line { IfOk result (λ text. TakesLines (string_line word.now text) (beside + length text) listing.old listing.new) }
 {
     listing.expect(word)?;
+    listing.spend(beside);
     let text = listing.string()?;
-    room.spend(text.as_bytes().len() as u32)?;
+    listing.spend(text.as_bytes().len() as u32);
     listing.next_line()?;
     Ok(text)
 }
 
 /// The string table.
-fn read_strings(listing: &mut Listing, room: &mut Room) -> Read<Vec<Text>>
-    ensures reads { IfOk result (λ strings. ReadsAll IsCounted spell.string room.old.left room.new.left strings.items) }
-    ensures lines { IfOk result (λ strings. TakesLines (table_lines strings.items) listing.old listing.new) }
+fn read_strings(listing: &mut Listing) -> Read<Vec<Text>>
+    ensures { IfOk result (λ strings. ReadsAll IsCounted spell.string (string_line (codes "string")) listing.old listing.new strings.items) }
 {
     let mut strings = Vec::new(listing.alloc);
-    'strings: while listing.is_at(FirstWord::Word(b"string")) {
-        check_place(strings.len())?;
-        room.spend(2)?;
-        strings.push(read_string(listing, room, b"string")?)?;
+    for _place in 0..MOST_ITEMS {
+        if !listing.is_at(b"string") {
+            return Ok(strings);
+        }
+        strings.push(read_string(listing, b"string", 2)?)?;
+    }
+    if listing.is_at(b"string") {
+        return Err(BAD_LINE);
     }
     Ok(strings)
 }
 
-/// The numbers up to the end of a `lines` line.
-fn read_numbers(listing: &mut Listing, room: &mut Room) -> Read<Vec<u16>>
-    ensures { IfOk result (λ numbers. ReadsAll (λ n. n < 2 ^ 16) spell.two_bytes room.old.left room.new.left numbers.items) }
+/// The numbers up to the end of a `lines` line. What stands behind 65,535 of them is left.
+fn read_numbers(listing: &mut Listing) -> Read<Vec<u16>>
+    ensures { IfOk result (λ numbers. Gives (IsCounted numbers.items × AllByRecursion (λ n. n < 2 ^ 16) numbers.items) (flat_map number numbers.items) (length (flat_map spell.two_bytes numbers.items)) listing.old listing.new) }
 {
     let mut numbers = Vec::new(listing.alloc);
-    'numbers: while listing.fields.is_some() {
-        check_place(numbers.len())?;
-        room.spend(2)?;
-        numbers.push(listing.unsigned(0xFFFF)? as u16)?;
+    for _place in 0..MOST_ITEMS {
+        if !listing.has_field() {
+            return Ok(numbers);
+        }
+        listing.spend(2);
+        numbers.push(listing.unsigned_16())?;
     }
     Ok(numbers)
 }
@@ -76,54 +82,77 @@ impl Item for PexLines {
 
     ghost spelling = { λ e. spell.lines (plain_lines e) };
 
-    fn read(listing: &mut Listing, names: &StringWords, room: &mut Room) -> Read<Self> {
-        room.spend(9)?;
-        let object = listing.reference(names)?;
-        let state = listing.reference(names)?;
-        let function = listing.reference(names)?;
-        let kind = listing.unsigned_8()?;
-        let lines = read_numbers(listing, room)?;
-        let entry = PexLines {
-            object: names.known(object)?,
-            state: names.known(state)?,
-            function: names.known(function)?,
+    ghost lines = { λ spelled e. form.lines spelled (plain_lines e) };
+
+    fn is_next(listing: &Listing) -> bool {
+        listing.is_at(b"lines")
+    }
+
+    fn read(listing: &mut Listing, names: &StringWords) -> Read<Self> {
+        listing.expect(b"lines")?;
+        listing.spend(9);
+        let object = listing.reference(names);
+        let state = listing.reference(names);
+        let function = listing.reference(names);
+        let kind = listing.unsigned_8();
+        let lines = read_numbers(listing)?;
+        listing.next_line()?;
+        Ok(PexLines {
+            object,
+            state,
+            function,
             kind,
             lines,
-        };
-        listing.next_line()?;
-        Ok(entry)
+        })
     }
 }
 
-/// Whether there is debug information, and its time.
-fn read_debug_line(listing: &mut Listing, room: &mut Room) -> Read<Option<u64>>
-    ensures { IfOk result (λ time. IfSome time (λ t. t < 2 ^ 64) × (room.new.left + debug_rest time ≡ room.old.left)) }
+/// A line that is this word alone.
+fn read_word(listing: &mut Listing, word: &[u8]) -> Read<()>
+    ensures { IfOk result (λ _. TakesLines (word.now ++ line_end) 0 listing.old listing.new) }
 {
-    let mut time = None;
-    if !listing.is_at(FirstWord::Word(b"nodebug")) {
-        listing.expect(b"debug")?;
-        room.spend(10)?;
-        time = Some(listing.unsigned(u64::MAX)?);
-    }
-    listing.end_of_line()?;
+    listing.expect(word)?;
+    listing.next_line()?;
+    Ok(())
+}
+
+/// The time of the debug information.
+fn read_debug_time(listing: &mut Listing) -> Read<u64>
+    ensures time { IfOk result (λ t. t < 2 ^ 64) }
+    ensures line { IfOk result (λ t. TakesLines (codes "debug" ++ number t ++ line_end) 10 listing.old listing.new) }
+{
+    listing.expect(b"debug")?;
+    listing.spend(10);
+    let time = listing.unsigned(u64::MAX);
     listing.next_line()?;
     Ok(time)
+}
+
+/// Whether there is debug information, and its time.
+fn read_debug_line(listing: &mut Listing) -> Read<Option<u64>>
+    ensures time { IfOk result (λ time. IfSome time (λ t. t < 2 ^ 64)) }
+    ensures line { IfOk result (λ time. TakesLines (debug_start time) (debug_rest time) listing.old listing.new) }
+{
+    if listing.is_at(b"nodebug") {
+        read_word(listing, b"nodebug")?;
+        return Ok(None);
+    }
+    Ok(Some(read_debug_time(listing)?))
 }
 
 /// The debug information of this time, where there is one.
 fn read_entries(
     listing: &mut Listing,
     names: &StringWords,
-    room: &mut Room,
     time: Option<u64>,
 ) -> Read<Option<PexDebug>>
     requires { IfSome time (λ t. t < 2 ^ 64) }
-    ensures { IfOk result (ReadsDebug (vec_len names.now.spelled) time room.old.left room.new.left) }
+    ensures { IfOk result (ReadsDebug (vec_len names.now.spelled) (spelled_in names.now) time listing.old listing.new) }
 {
     let Some(time) = time else {
         return Ok(None);
     };
-    let functions = read_all(listing, names, room, FirstWord::Word(b"lines"))?;
+    let functions = read_all(listing, names)?;
     Ok(Some(PexDebug { time, functions }))
 }
 
@@ -133,34 +162,39 @@ impl Item for (u16, u8) {
 
     ghost spelling = { spell.flag };
 
-    fn read(listing: &mut Listing, names: &StringWords, room: &mut Room) -> Read<Self> {
-        room.spend(3)?;
-        let name = listing.reference(names)?;
-        let index = listing.unsigned_8()?;
-        listing.end_of_line()?;
-        let flag = (names.known(name)?, index);
+    ghost lines = { form.flag };
+
+    fn is_next(listing: &Listing) -> bool {
+        listing.is_at(b"flag")
+    }
+
+    fn read(listing: &mut Listing, names: &StringWords) -> Read<Self> {
+        listing.expect(b"flag")?;
+        listing.spend(3);
+        let name = listing.reference(names);
+        let index = listing.unsigned_8();
         listing.next_line()?;
-        Ok(flag)
+        Ok((name, index))
     }
 }
 
 /// The parts of a value in the order of the listing.
 fn read_pex(listing: &mut Listing) -> Read<Pex>
+    requires { listing.old.room.left + 29 ≡ 16777216 }
     ensures shaped { IfOk result (λ v. IsWellShaped (plain v)) }
     ensures fits { IfOk result (λ v. Fits (plain v)) }
-    ensures begun { IfOk result (λ v. (text : List ℕ) → Opens text listing.old → BeginsWith (head_lines (plain v)) text) }
+    ensures text { IfOk result (λ v. text_left listing.old ≡ form.listing (plain v)) }
 {
-    let mut room = Room::new();
     let version = read_version(listing)?;
-    let source = read_string(listing, &mut room, b"source")?;
-    let user = read_string(listing, &mut room, b"user")?;
-    let machine = read_string(listing, &mut room, b"machine")?;
-    let strings = read_strings(listing, &mut room)?;
-    let debug_time = read_debug_line(listing, &mut room)?;
+    let source = read_string(listing, b"source", 0)?;
+    let user = read_string(listing, b"user", 0)?;
+    let machine = read_string(listing, b"machine", 0)?;
+    let strings = read_strings(listing)?;
+    let debug_time = read_debug_line(listing)?;
     let names = StringWords::new(listing.alloc, &strings)?;
-    let debug = read_entries(listing, &names, &mut room, debug_time)?;
-    let user_flags = read_all(listing, &names, &mut room, FirstWord::Word(b"flag"))?;
-    let objects = read_all(listing, &names, &mut room, FirstWord::Word(b"object"))?;
+    let debug = read_entries(listing, &names, debug_time)?;
+    let user_flags = read_all(listing, &names)?;
+    let objects = read_all(listing, &names)?;
     listing.end()?;
     Ok(Pex {
         minor: version.0,
@@ -180,7 +214,7 @@ fn read_pex(listing: &mut Listing) -> Read<Pex>
 pub fn assemble(alloc: Global, bytes: &[u8]) -> Result<Pex, ListingFault>
     ensures shaped { IfOk result (λ v. IsWellShaped (plain v)) }
     ensures fits { IfOk result (λ v. Fits (plain v)) }
-    ensures begun { IfOk result (λ v. BeginsWith (head_lines (plain v)) bytes.now) }
+    ensures text { IfOk result (λ v. bytes.now ≡ form.listing (plain v)) }
 {
     let mut listing = Listing::new(alloc, bytes);
     read_pex(&mut listing).map_err(|fault| at_line(listing.number, fault))

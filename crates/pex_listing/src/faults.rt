@@ -66,8 +66,6 @@ pub(crate) type LineRefusal = Fault<ListingRule>;
 
 pub(crate) const BAD_LINE: LineRefusal = Fault::Broken(ListingRule::BadLine);
 
-pub(crate) const BAD_NAME: LineRefusal = Fault::Broken(ListingRule::BadName);
-
 /// The fault of the whole listing, where this is the line.
 pub(crate) fn at_line(line: u32, fault: LineRefusal) -> ListingFault {
     match fault {

@@ -3,8 +3,10 @@
 
 mod assembling;
 mod faults;
+mod fields;
 mod listing;
 mod objects;
+mod room;
 mod showing;
 mod strings;
 

@@ -1,49 +1,51 @@
 //! A listing as lines, a line as fields, and what the parts of a listing have in common.
 
-ghost use Rattle.std.specs.Prelude.{◌≡◌, ℕ, List, ◌+◌, ◌<◌, ◌≤◌, ◌^◌, ◌&&◌, not, [], ◌∷◌, ◌++◌, Some, length, vec_len, ◌↔◌, IfOk, OnOk, IfSome, IsTrue, unwrap_or, option_map, if◌then◌else◌};
-ghost use Rattle.std.specs.Char.{is_ascii_digit};
-ghost use Rattle.std.specs.Fmt.{decimal};
-ghost use Rattle.std.specs.List.{list_all};
-ghost use Rattle.papy_base.specs.Digits.{has_leading_zero};
+ghost use Rattle.std.specs.Prelude.{◌≡◌, ℕ, List, ◌+◌, ◌<◌, ◌≤◌, ◌^◌, [], ◌∷◌, ◌++◌, false, length, vec_len, IfOk, IfSome, unwrap_or, option_map, if◌then◌else◌};
+ghost use Rattle.std.specs.Fmt.{signed_decimal};
+ghost use Rattle.std.specs.List.{flat_map};
 ghost use Rattle.pex_values.specs.Shape.{IsReference};
-ghost use Rattle.pex_listing.specs.Lines.{escaped, quoted};
-ghost use Rattle.pex_listing.specs.Numbers.{are_digits, hex_value, hex_number};
-ghost use Rattle.pex_listing.specs.Opened.{Opens, TakesField, SameWord, fields_left, word_of};
-ghost use Rattle.pex_listing.specs.Reading.{Reads, ReadsAll};
+ghost use Rattle.pex_listing.specs.Lines.{eight_digits, field, number, quoted};
+ghost use Rattle.pex_listing.specs.Listing.{opcode_name, size_form};
+ghost use Rattle.pex_listing.specs.Opened.{Begun, Cuts, Ends, Gives, Good, Notes, Spends, Takes, TakesLines, fields_left, text_left};
+ghost use Rattle.pex_listing.specs.Reading.{ReadsAll};
+ghost use Rattle.pex_listing.specs.Spelled.{spelled_in};
 
 use crate::faults::{BAD_LINE, ListingRule, Read};
-use crate::strings::{StringWords, is_word};
-use papy_base::{Fault, Text, decimal_number, has_leading_zero};
-use pex_values::{FILE_LIMIT, OPCODES, SizeForm};
+use crate::fields::{hexadecimal_of, reference_of, signed_of, size_form_of, unquote, unsigned_of};
+use crate::room::Room;
+use crate::showing::opcode_name;
+use crate::strings::StringWords;
+use papy_base::{Fault, Made, Text};
+use pex_values::{FILE_LIMIT, SizeForm};
 use std::alloc::Global;
 
-/// The most bytes of a string.
-const LONGEST: usize = 65_535;
-
 /// The most items of a list.
-const MOST_ITEMS: usize = 65_535;
+pub(crate) const MOST_ITEMS: usize = 65_535;
 
 /// The bytes of a value with empty strings and lists and without debug information.
 const LEAST: u32 = 29;
+
+/// How many opcodes there are.
+const OPCODE_COUNT: u8 = 36;
 
 /// What a line begins with.
 #[derive(Clone, Copy)]
 pub(crate) enum FirstWord<'a> {
     /// A word that is no opcode's name.
     Word(&'a [u8]),
-    /// An opcode's name.
-    Opcode,
+    /// The name of this opcode.
+    Opcode(u8),
     /// No line is left that ends with LF.
     End,
 }
 
 /// The opcode of this name.
 fn opcode_of(word: &[u8]) -> Option<u8>
-    ensures { IfSome result (λ code. code < 36) }
+    ensures { IfSome result (λ code. word.now ≡ opcode_name code) }
 {
-    for (code, opcode) in OPCODES.iter().enumerate() {
-        if opcode.name.as_bytes() == word {
-            return Some(code as u8);
+    for code in 0..OPCODE_COUNT {
+        if opcode_name(code).as_bytes() == word {
+            return Some(code);
         }
     }
     None
@@ -67,35 +69,18 @@ fn split_field(bytes: &[u8]) -> (&[u8], Option<&[u8]>)
     }
 }
 
-/// The digits of a number, and whether a minus stands before them.
-fn split_minus(field: &[u8]) -> (&[u8], bool)
-    ensures { field.now ≡ (if result.1 then 45 ∷ result.0.now else result.0.now) }
-{
-    match field {
-        [b'-', digits @ ..] => (digits, true),
-        _ => (field, false),
-    }
-}
-
-/// Whether a number of these digits is in its one spelling: without a minus and without a zero before another digit.
-fn is_canonical_number(is_negative: bool, digits: &[u8]) -> bool
-    ensures { result ≡ (not is_negative && not (has_leading_zero digits.now)) }
-{
-    !is_negative && !has_leading_zero(digits)
-}
-
-/// A listing with its open line, whose fields are read from the left.
+/// A listing with its open line, whose fields are read from the left. What a field breaks is noted, and the line is
+/// judged at its end.
 #[derive(Drop)]
 pub(crate) struct Listing<'a> {
     /// The allocator of what is read.
     pub alloc: Global,
     first_word: FirstWord<'a>,
-    /// The opcode, where the first word is an opcode's name.
-    pub opcode: u8,
     /// The fields of the open line that weren't read yet. None behind the last one.
     pub fields: Option<&'a [u8]>,
-    /// Whether each field that was read is in its one spelling.
-    is_canonical: bool,
+    /// The rule that the open line breaks so far: BadLine before BadName, and that before NotCanonical.
+    broken: Option<ListingRule>,
+    pub room: Room,
     /// The number of the open line, from 1.
     pub number: u32,
     /// What follows the open line.
@@ -105,14 +90,17 @@ pub(crate) struct Listing<'a> {
 impl<'a> Listing<'a> {
     /// The first line is open.
     pub(crate) fn new(alloc: Global, bytes: &'a [u8]) -> Listing<'a>
-        ensures { Opens bytes.now result }
+        ensures text { text_left result ≡ bytes.now }
+        ensures room { result.room.left + 29 ≡ 16777216 }
     {
         let mut listing = Listing {
             alloc,
             first_word: FirstWord::End,
-            opcode: 0,
             fields: None,
-            is_canonical: true,
+            broken: None,
+            room: Room {
+                left: FILE_LIMIT - LEAST,
+            },
             number: 0,
             rest: bytes,
         };
@@ -122,7 +110,8 @@ impl<'a> Listing<'a> {
 
     /// Opens the line that follows. There are fewer than 2^32 before one that is refused, since their parts don't fit.
     fn open_next(&mut self)
-        ensures { Opens self.old.rest.now self.new }
+        ensures text { text_left self.new ≡ self.old.rest.now }
+        ensures room { self.new.room.left ≡ self.old.room.left }
     {
         self.number = self.number.saturating_add(1);
         self.fields = None;
@@ -135,25 +124,26 @@ impl<'a> Listing<'a> {
         self.fields = fields;
         self.first_word = FirstWord::Word(word);
         if let Some(opcode) = opcode_of(word) {
-            self.first_word = FirstWord::Opcode;
-            self.opcode = opcode;
+            self.first_word = FirstWord::Opcode(opcode);
         }
     }
 
-    /// Whether the open line begins so.
-    pub(crate) fn is_at(&self, first_word: FirstWord) -> bool
-        ensures { IsTrue result ↔ SameWord self.now.first_word first_word.entry }
-    {
-        match (self.first_word, first_word) {
-            (FirstWord::Word(word), FirstWord::Word(other)) => word == other,
-            (FirstWord::Opcode, FirstWord::Opcode) | (FirstWord::End, FirstWord::End) => true,
+    /// Whether the open line begins with this word, which is no opcode's name.
+    pub(crate) fn is_at(&self, word: &[u8]) -> bool {
+        match self.first_word {
+            FirstWord::Word(found) => found == word,
             _ => false,
         }
     }
 
+    /// Whether the open line begins with an opcode's name.
+    pub(crate) fn is_at_opcode(&self) -> bool {
+        matches!(self.first_word, FirstWord::Opcode(_))
+    }
+
     /// A line with this word must come.
     pub(crate) fn expect(&self, word: &[u8]) -> Read<()>
-        ensures { IfOk result (λ _. word_of self.now.first_word ≡ Some word.now) }
+        ensures { IfOk result (λ _. Begun word.now 0 self.now self.now) }
     {
         match self.first_word {
             FirstWord::Word(found) if found == word => Ok(()),
@@ -162,8 +152,20 @@ impl<'a> Listing<'a> {
         }
     }
 
+    /// The opcode whose name the open line begins with.
+    pub(crate) fn opcode(&self) -> Read<u8>
+        ensures { IfOk result (λ code. Begun (opcode_name code) 0 self.now self.now) }
+    {
+        match self.first_word {
+            FirstWord::Opcode(opcode) => Ok(opcode),
+            _ => Err(BAD_LINE),
+        }
+    }
+
     /// No line may follow, also none without its LF.
-    pub(crate) fn end(&self) -> Read<()> {
+    pub(crate) fn end(&self) -> Read<()>
+        ensures { IfOk result (λ _. text_left self.now ≡ []) }
+    {
         match self.first_word {
             FirstWord::End if self.rest.is_empty() => Ok(()),
             FirstWord::End => Err(Fault::Broken(ListingRule::End)),
@@ -171,289 +173,191 @@ impl<'a> Listing<'a> {
         }
     }
 
-    /// The open line has no further field.
-    pub(crate) fn end_of_line(&self) -> Read<()>
-        ensures { IfOk result (λ _. fields_left self.now ≡ []) }
-    {
-        match self.fields {
-            None => Ok(()),
-            Some(_) => Err(BAD_LINE),
-        }
-    }
-
-    /// Goes on to the next line. Every field of the open one was read, so now its spelling is judged.
+    /// Goes on to the next line. The open one has no further field, so now it is judged.
     pub(crate) fn next_line(&mut self) -> Read<()>
-        ensures canonical { IfOk result (λ _. IsTrue self.old.is_canonical) }
-        ensures opened { IfOk result (λ _. Opens self.old.rest.now self.new) }
+        ensures { IfOk result (λ _. Ends self.old self.new) }
     {
-        if !self.is_canonical {
-            return Err(Fault::Broken(ListingRule::NotCanonical));
+        if self.fields.is_some() {
+            return Err(BAD_LINE);
+        }
+        if let Some(rule) = self.broken {
+            return Err(Fault::Broken(rule));
         }
         self.open_next();
         Ok(())
     }
 
-    /// The next field.
-    pub(crate) fn field(&mut self) -> Read<&'a [u8]>
-        ensures taken { IfOk result (λ field. fields_left self.old ≡ 32 ∷ field.now ++ fields_left self.new) }
-        ensures first_word { self.new.first_word ≡ self.old.first_word }
-        ensures canonical { self.new.is_canonical ≡ self.old.is_canonical }
-        ensures rest { self.new.rest.now ≡ self.old.rest.now }
+    /// Notes a rule that the open line breaks.
+    pub(crate) fn note(&mut self, rule: ListingRule)
+        ensures { Notes false self.old self.new }
     {
-        let fields = self.fields.ok_or(BAD_LINE)?;
-        let (field, behind) = split_field(fields);
-        self.fields = behind;
-        Ok(field)
-    }
-
-    /// Notes whether a field is in its one spelling.
-    fn note(&mut self, is_canonical: bool)
-        ensures canonical { self.new.is_canonical ≡ (self.old.is_canonical && is_canonical) }
-        ensures first_word { self.new.first_word ≡ self.old.first_word }
-        ensures fields { fields_left self.new ≡ fields_left self.old }
-        ensures rest { self.new.rest.now ≡ self.old.rest.now }
-    {
-        self.is_canonical = self.is_canonical && is_canonical;
-    }
-
-    /// All that is left of the line, which is a string in quotes.
-    pub(crate) fn string(&mut self) -> Read<Text>
-        ensures short { IfOk result (λ text. length text < 2 ^ 16) }
-        ensures taken { IfOk result (λ text. TakesField (quoted text) self.old self.new) }
-        ensures last { IfOk result (λ _. fields_left self.new ≡ []) }
-    {
-        let field = self.fields.ok_or(BAD_LINE)?;
-        let quoted = unquote(self.alloc, field)?;
-        self.fields = None;
-        self.note(quoted.is_canonical);
-        Ok(quoted.text)
-    }
-
-    /// A number without sign, or `-0`.
-    pub(crate) fn unsigned(&mut self, most: u64) -> Read<u64>
-        ensures within { IfOk result (λ n. n ≤ most) }
-        ensures taken { IfOk result (λ n. TakesField (decimal n) self.old self.new) }
-    {
-        let field = self.field()?;
-        let (digits, is_negative) = split_minus(field);
-        if !is_digits(digits) {
-            return Err(BAD_LINE);
-        }
-        let number = decimal_number(digits).ok_or(BAD_LINE)?;
-        if number > most || (is_negative && number != 0) {
-            return Err(BAD_LINE);
-        }
-        self.note(is_canonical_number(is_negative, digits));
-        Ok(number)
-    }
-
-    pub(crate) fn unsigned_8(&mut self) -> Read<u8>
-        ensures { IfOk result (λ n. TakesField (decimal n) self.old self.new) }
-    {
-        Ok(self.unsigned(0xFF)? as u8)
-    }
-
-    pub(crate) fn unsigned_32(&mut self) -> Read<u32>
-        ensures { IfOk result (λ n. TakesField (decimal n) self.old self.new) }
-    {
-        Ok(self.unsigned(0xFFFF_FFFF)? as u32)
-    }
-
-    /// A number with a sign.
-    pub(crate) fn signed(&mut self) -> Read<i32> {
-        let field = self.field()?;
-        let (digits, is_negative) = split_minus(field);
-        if !is_digits(digits) {
-            return Err(BAD_LINE);
-        }
-        let magnitude = decimal_number(digits).ok_or(BAD_LINE)?;
-        self.note(!(is_negative && magnitude == 0) && !has_leading_zero(digits));
-        with_sign(is_negative, magnitude).ok_or(BAD_LINE)
-    }
-
-    /// Eight hexadecimal digits.
-    pub(crate) fn hexadecimal(&mut self) -> Read<u32> {
-        let field = self.field()?;
-        let number = hex_number(field).ok_or(BAD_LINE)?;
-        self.note(!field.iter().any(|digit| digit.is_ascii_uppercase()));
-        Ok(number)
-    }
-
-    /// A reference. None where there is no such string.
-    pub(crate) fn reference(&mut self, names: &StringWords) -> Read<Option<u16>>
-        ensures { IfOk result (λ found. IfSome found (IsReference (vec_len names.now.spelled))) }
-    {
-        let field = self.field()?;
-        let place = match field {
-            [b'#', digits @ ..] if is_digits(digits) => {
-                u16::try_from(decimal_number(digits).unwrap_or(u64::MAX)).ok()
-            }
-            _ if is_word(field) => names.place_of(field),
-            _ => return Err(BAD_LINE),
-        };
-        let Some(place) = place else {
-            return Ok(None);
-        };
-        let Some(spelled) = names.spelled.get(place as usize) else {
-            return Ok(None);
-        };
-        self.note(field == spelled.as_slice());
-        Ok(Some(place))
-    }
-
-    /// What the size field of an object counts.
-    pub(crate) fn size_form(&mut self) -> Read<SizeForm> {
-        match self.field()? {
-            b"counted" => Ok(SizeForm::Counted),
-            b"bare" => Ok(SizeForm::Bare),
-            _ => Err(BAD_LINE),
+        match (self.broken, rule) {
+            (Some(ListingRule::BadLine), _) => {}
+            (Some(ListingRule::BadName), ListingRule::NotCanonical) => {}
+            _ => self.broken = Some(rule),
         }
     }
-}
 
-/// The number of this sign and magnitude. None where it doesn't fit.
-fn with_sign(is_negative: bool, magnitude: u64) -> Option<i32> {
-    let magnitude = i64::try_from(magnitude).ok()?;
-    i32::try_from(if is_negative { -magnitude } else { magnitude }).ok()
-}
-
-// ---- the forms of fields: decimal and hexadecimal numbers, and strings in quotes
-
-/// Whether the bytes are one or more decimal digits.
-pub(crate) fn is_digits(bytes: &[u8]) -> bool
-    ensures { result ≡ are_digits bytes.now }
-{
-    !bytes.is_empty() && each_is_digit(bytes)
-}
-
-fn each_is_digit(bytes: &[u8]) -> bool
-    ensures { result ≡ list_all is_ascii_digit bytes.now }
-{
-    bytes.iter().all(|byte| byte.is_ascii_digit())
-}
-
-/// The value of a hexadecimal digit of either case.
-fn hex_value(digit: u8) -> Option<u8>
-    ensures value { result ≡ hex_value digit }
-    ensures below { IfSome result (λ n. n < 16) }
-{
-    match digit {
-        b'0'..=b'9' => Some(digit - b'0'),
-        b'a'..=b'f' => Some(digit - b'a' + 10),
-        b'A'..=b'F' => Some(digit - b'A' + 10),
-        _ => None,
-    }
-}
-
-/// The number that eight hexadecimal digits of either case spell. None where the bytes are no such.
-pub(crate) fn hex_number(digits: &[u8]) -> Option<u32>
-    ensures { result ≡ hex_number digits.now }
-{
-    if digits.len() != 8 {
-        return None;
-    }
-    let mut number: u32 = 0;
-    for digit in digits {
-        let value = hex_value(*digit)?;
-        number = number.wrapping_mul(16).wrapping_add(u32::from(value));
-    }
-    Some(number)
-}
-
-/// The byte that `\x` and these two digits spell. It has this form only where it isn't from 20h to 7Eh.
-fn hex_escape(high: u8, low: u8) -> Option<(u8, bool)>
-    ensures { IfSome result (λ p. IsTrue p.1 → escaped p.0 ≡ 92 ∷ 120 ∷ high ∷ low ∷ []) }
-{
-    let byte = hex_value(high)? * 16 + hex_value(low)?;
-    let is_plain = matches!(byte, 0x20..=0x7E);
-    let is_canonical = !is_plain && !high.is_ascii_uppercase() && !low.is_ascii_uppercase();
-    Some((byte, is_canonical))
-}
-
-/// The first byte that is spelled, whether this is its one spelling, and what follows it. None where the bytes spell
-/// none.
-fn first_byte(bytes: &[u8]) -> Option<(u8, bool, &[u8])>
-    ensures shorter { IfSome result (λ s. length s.2.now < length bytes.now) }
-    ensures canonical { IfSome result (λ s. IsTrue s.1 → bytes.now ≡ escaped s.0 ++ s.2.now) }
-{
-    match bytes {
-        [b'\\', b'x', high, low, rest @ ..] => {
-            let (byte, is_canonical) = hex_escape(*high, *low)?;
-            Some((byte, is_canonical, rest))
-        }
-        [b'\\', byte @ (b'"' | b'\\'), rest @ ..] => Some((*byte, true, rest)),
-        [byte @ (0x20 | 0x21 | 0x23..=0x5B | 0x5D..=0x7E), rest @ ..] => Some((*byte, true, rest)),
-        _ => None,
-    }
-}
-
-/// A string, and whether this is its one spelling.
-#[derive(Drop)]
-pub(crate) struct Quoted {
-    pub text: Text,
-    pub is_canonical: bool,
-}
-
-/// What stands between the quotes at both ends.
-fn between_quotes(field: &[u8]) -> Option<&[u8]>
-    ensures { IfSome result (λ inner. field.now ≡ 34 ∷ inner.now ++ 34 ∷ []) }
-{
-    match field {
-        [b'"', inner @ .., b'"'] => Some(inner),
-        _ => None,
-    }
-}
-
-/// The string that a field in quotes spells. It has at most 65,535 bytes.
-pub(crate) fn unquote(alloc: Global, field: &[u8]) -> Read<Quoted>
-    ensures short { IfOk result (λ q. length q.text < 2 ^ 16) }
-    ensures canonical { IfOk result (λ q. IsTrue q.is_canonical → field.now ≡ quoted q.text) }
-{
-    let mut bytes = Vec::new(alloc);
-    let mut is_canonical = true;
-    let mut rest = between_quotes(field).ok_or(BAD_LINE)?;
-    while !rest.is_empty() {
-        let (byte, is_spelled_so, behind) = first_byte(rest).ok_or(BAD_LINE)?;
-        if bytes.len() >= LONGEST {
-            return Err(BAD_LINE);
-        }
-        bytes.push(byte)?;
-        is_canonical = is_canonical && is_spelled_so;
-        rest = behind;
-    }
-    let text = Text::try_from_bytes(alloc, &bytes)?;
-    Ok(Quoted { text, is_canonical })
-}
-
-// ---- the parts of a value, and the bytes that they take
-
-/// The bytes that no part of the value has taken yet. The parts that every value has are taken at the start.
-#[derive(Clone, Copy)]
-pub(crate) struct Room {
-    pub left: u32,
-    ghost within: { left ≤ 16777216 },
-}
-
-impl Room {
-    pub(crate) fn new() -> Room
-        ensures { result.left + 29 ≡ 16777216 }
+    /// Notes the rule unless the test holds.
+    pub(crate) fn check(&mut self, holds: bool, rule: ListingRule)
+        ensures { Notes holds self.old self.new }
     {
-        Room {
-            left: FILE_LIMIT - LEAST,
+        if !holds {
+            self.note(rule);
         }
     }
 
     /// Takes so many bytes. The value no longer fits where fewer are left.
-    pub(crate) fn spend(&mut self, bytes: u32) -> Read<()>
-        ensures { OnOk result (self.new.left + bytes ≡ self.old.left) }
+    pub(crate) fn spend(&mut self, bytes: u32)
+        ensures { Spends bytes self.old self.new }
     {
-        if bytes > self.left {
-            return Err(BAD_LINE);
+        let left = self.room.left;
+        if bytes > left {
+            self.note(ListingRule::BadLine);
+            return;
         }
-        self.left -= bytes;
-        Ok(())
+        self.room = Room { left: left - bytes };
+    }
+
+    /// Whether the open line has a further field, and may still be good.
+    pub(crate) fn has_field(&self) -> bool {
+        self.fields.is_some() && !matches!(self.broken, Some(ListingRule::BadLine))
+    }
+
+    /// The next field.
+    pub(crate) fn field(&mut self) -> &'a [u8]
+        ensures { Cuts result.now self.old self.new }
+    {
+        let Some(fields) = self.fields else {
+            self.note(ListingRule::BadLine);
+            return b"";
+        };
+        let (field, behind) = split_field(fields);
+        self.fields = behind;
+        field
+    }
+
+    /// All that is left of the line, which is a string in quotes.
+    pub(crate) fn string(&mut self) -> Made<Text>
+        ensures short { IfOk result (λ text. length text < 2 ^ 16) }
+        ensures taken { IfOk result (λ text. Takes (field (quoted text)) 0 self.old self.new) }
+    {
+        let Some(field) = self.fields else {
+            self.note(ListingRule::BadLine);
+            return Text::try_from_bytes(self.alloc, b"");
+        };
+        let Some(quoted) = unquote(self.alloc, field)? else {
+            self.note(ListingRule::BadLine);
+            return Text::try_from_bytes(self.alloc, b"");
+        };
+        self.fields = None;
+        self.check(quoted.is_canonical, ListingRule::NotCanonical);
+        Ok(quoted.text)
+    }
+
+    /// A number without sign, or `-0`.
+    pub(crate) fn unsigned(&mut self, most: u64) -> u64
+        ensures within { result ≤ most }
+        ensures taken { Takes (number result) 0 self.old self.new }
+    {
+        let field = self.field();
+        match unsigned_of(field, most) {
+            Some((number, is_canonical)) => {
+                self.check(is_canonical, ListingRule::NotCanonical);
+                number
+            }
+            None => {
+                self.note(ListingRule::BadLine);
+                0
+            }
+        }
+    }
+
+    pub(crate) fn unsigned_8(&mut self) -> u8
+        ensures { Takes (number result) 0 self.old self.new }
+    {
+        self.unsigned(0xFF) as u8
+    }
+
+    pub(crate) fn unsigned_16(&mut self) -> u16
+        ensures { Takes (number result) 0 self.old self.new }
+    {
+        self.unsigned(0xFFFF) as u16
+    }
+
+    pub(crate) fn unsigned_32(&mut self) -> u32
+        ensures { Takes (number result) 0 self.old self.new }
+    {
+        self.unsigned(0xFFFF_FFFF) as u32
+    }
+
+    /// A number with a sign.
+    pub(crate) fn signed(&mut self) -> i32
+        ensures { Takes (field (signed_decimal result)) 0 self.old self.new }
+    {
+        let field = self.field();
+        match signed_of(field) {
+            Some((number, is_canonical)) => {
+                self.check(is_canonical, ListingRule::NotCanonical);
+                number
+            }
+            None => {
+                self.note(ListingRule::BadLine);
+                0
+            }
+        }
+    }
+
+    /// Eight hexadecimal digits.
+    pub(crate) fn hexadecimal(&mut self) -> u32
+        ensures { Takes (field (eight_digits result)) 0 self.old self.new }
+    {
+        let field = self.field();
+        match hexadecimal_of(field) {
+            Some((number, is_canonical)) => {
+                self.check(is_canonical, ListingRule::NotCanonical);
+                number
+            }
+            None => {
+                self.note(ListingRule::BadLine);
+                0
+            }
+        }
+    }
+
+    /// A reference.
+    pub(crate) fn reference(&mut self, names: &StringWords) -> u16
+        ensures { Gives (IsReference (vec_len names.now.spelled) result) (field (spelled_in names.now result)) 0 self.old self.new }
+    {
+        let field = self.field();
+        match reference_of(names, field) {
+            Ok((place, is_canonical)) => {
+                self.check(is_canonical, ListingRule::NotCanonical);
+                place
+            }
+            Err(rule) => {
+                self.note(rule);
+                0
+            }
+        }
+    }
+
+    /// What the size field of an object counts.
+    pub(crate) fn size_form(&mut self) -> SizeForm
+        ensures { Takes (size_form result) 0 self.old self.new }
+    {
+        let word = self.field();
+        match size_form_of(word) {
+            Some(form) => form,
+            None => {
+                self.note(ListingRule::BadLine);
+                SizeForm::Bare
+            }
+        }
     }
 }
+
+// ---- the parts of a value
 
 /// A part of a value, which a listing has as one line or as several.
 pub(crate) trait Item: Drop {
@@ -463,34 +367,31 @@ pub(crate) trait Item: Drop {
     /// Its bytes in a file.
     ghost spelling: { Self → List ℕ };
 
-    /// Reads the part. The open line begins with its first word.
-    fn read(listing: &mut Listing, names: &StringWords, room: &mut Room) -> Read<Self>
-        ensures { IfOk result (λ part. Reads (holds (vec_len names.now.spelled)) spelling room.old.left room.new.left part) };
+    /// Its lines, where references are spelled so.
+    ghost lines: { (ℕ → List ℕ) → Self → List ℕ };
+
+    /// Whether the open line begins such a part.
+    fn is_next(listing: &Listing) -> bool;
+
+    /// Reads the part.
+    fn read(listing: &mut Listing, names: &StringWords) -> Read<Self>
+        ensures holds { IfOk result (holds (vec_len names.now.spelled)) }
+        ensures lines { IfOk result (λ part. TakesLines (lines (spelled_in names.now) part) (length (spelling part)) listing.old listing.new) };
 }
 
-/// A list of this length has a place for one item more.
-pub(crate) fn check_place(length: usize) -> Read<()>
-    ensures { OnOk result (length + 1 < 2 ^ 16) }
-{
-    if length >= MOST_ITEMS {
-        return Err(BAD_LINE);
-    }
-    Ok(())
-}
-
-/// All parts that follow, which begin with this first word.
-pub(crate) fn read_all<T: Item>(
-    listing: &mut Listing,
-    names: &StringWords,
-    room: &mut Room,
-    first_word: FirstWord,
-) -> Read<Vec<T>>
-    ensures { IfOk result (λ parts. ReadsAll (T.holds (vec_len names.now.spelled)) T.spelling room.old.left room.new.left parts.items) }
+/// All such parts that follow.
+pub(crate) fn read_all<T: Item>(listing: &mut Listing, names: &StringWords) -> Read<Vec<T>>
+    ensures { IfOk result (λ parts. ReadsAll (T.holds (vec_len names.now.spelled)) T.spelling (T.lines (spelled_in names.now)) listing.old listing.new parts.items) }
 {
     let mut parts = Vec::new(listing.alloc);
-    'parts: while listing.is_at(first_word) {
-        check_place(parts.len())?;
-        parts.push(T::read(listing, names, room)?)?;
+    for _place in 0..MOST_ITEMS {
+        if !T::is_next(listing) {
+            return Ok(parts);
+        }
+        parts.push(T::read(listing, names)?)?;
+    }
+    if T::is_next(listing) {
+        return Err(BAD_LINE);
     }
     Ok(parts)
 }

@@ -1,96 +1,94 @@
 //! Objects, their members, and the functions in them down to their instructions.
 
-ghost use Rattle.std.specs.Prelude.{◌≡◌, ◌+◌, ◌<◌, ◌≤◌, length, vec_len, is_some, IfOk, IfSome, OnOk};
+ghost use Rattle.std.specs.Prelude.{◌≡◌, ◌+◌, false, [], length, vec_len, is_some, IfOk, IfSome};
+ghost use Rattle.std.specs.List.{flat_map, AllByRecursion};
 ghost use Rattle.pex_values.specs.Bits as bits_of;
 ghost use Rattle.pex_values.specs.Plain.{plain_instruction, plain_function, plain_named, plain_property, plain_state, plain_object};
 ghost use Rattle.pex_values.specs.Shape.{IsReference, ArePair, IsShapedDatum, IsShapedVariable};
 ghost use Rattle.pex_values.specs.Spelling as spell;
-ghost use Rattle.pex_listing.specs.Reading.{Reads, ReadsData, ReadsMore, ReadsAccessor, HoldsInstruction, HoldsFunction, HoldsNamed, HoldsProperty, HoldsState, HoldsObject, least_function};
+ghost use Rattle.pex_listing.specs.Listing as form;
+ghost use Rattle.pex_listing.specs.Opened.{Continues, Gives, Good, TakesLines};
+ghost use Rattle.pex_listing.specs.Reading.{ReadsAll, ReadsAccessor, HoldsInstruction, HoldsFunction, HoldsNamed, HoldsProperty, HoldsState, HoldsObject, least_function, more_bytes};
+ghost use Rattle.pex_listing.specs.Spelled.{spelled_in};
 
-use crate::faults::{BAD_LINE, BAD_NAME, Read};
-use crate::listing::{FirstWord, Item, Listing, Room, read_all};
+use crate::faults::{BAD_LINE, ListingRule, Read};
+use crate::fields::{ValueKind, value_kind_of};
+use crate::listing::{Item, Listing, MOST_ITEMS, read_all};
 use crate::strings::StringWords;
 use pex_values::{
     Datum, Instruction, PexFunction, PexObject, PexProperty, PexState, PexVariable, has_read,
     has_variable, has_write, operand_count,
 };
 
-/// A value, and its bytes in a file. None where its reference names no string.
-fn read_sized(listing: &mut Listing, names: &StringWords) -> Read<(u32, Option<Datum>)>
-    ensures sized { IfOk result (λ r. 0 < r.0) }
-    ensures value { IfOk result (λ r. IfSome r.1 (λ d. IsShapedDatum (vec_len names.now.spelled) d × (length (spell.datum d) ≡ r.0))) }
+/// A value, whose bytes aren't taken yet.
+fn read_value(listing: &mut Listing, names: &StringWords) -> Datum
+    ensures { Gives (IsShapedDatum (vec_len names.now.spelled) result) (form.datum (spelled_in names.now) result) 0 listing.old listing.new }
 {
-    match listing.field()? {
-        b"none" => Ok((1, Some(Datum::NoneValue))),
-        b"id" => Ok((3, listing.reference(names)?.map(Datum::Word))),
-        b"text" => Ok((3, listing.reference(names)?.map(Datum::Quoted))),
-        b"int" => Ok((5, Some(Datum::Int(listing.signed()?)))),
-        b"float" => Ok((5, Some(Datum::Float(listing.hexadecimal()?)))),
-        b"bool" => Ok((2, Some(Datum::Bool(listing.unsigned_8()?)))),
-        _ => Err(BAD_LINE),
+    let word = listing.field();
+    let Some(kind) = value_kind_of(word) else {
+        listing.note(ListingRule::BadLine);
+        return Datum::NoneValue;
+    };
+    match kind {
+        ValueKind::Nothing => Datum::NoneValue,
+        ValueKind::Name => Datum::Word(listing.reference(names)),
+        ValueKind::Text => Datum::Quoted(listing.reference(names)),
+        ValueKind::Integer => Datum::Int(listing.signed()),
+        ValueKind::Real => Datum::Float(listing.hexadecimal()),
+        ValueKind::Truth => Datum::Bool(listing.unsigned_8()),
     }
 }
 
-/// A value. None where its reference names no string.
-fn read_datum(listing: &mut Listing, names: &StringWords, room: &mut Room) -> Read<Option<Datum>>
-    ensures value { IfOk result (λ found. IfSome found (Reads (IsShapedDatum (vec_len names.now.spelled)) spell.datum room.old.left room.new.left)) }
-    ensures less { OnOk result (room.new.left < room.old.left) }
+/// The bytes of a value in a file.
+fn size_of(value: Datum) -> u32
+    ensures { result ≡ length (spell.datum value) }
 {
-    let (bytes, value) = read_sized(listing, names)?;
-    room.spend(bytes)?;
-    Ok(value)
+    match value {
+        Datum::NoneValue => 1,
+        Datum::Word(_) | Datum::Quoted(_) => 3,
+        Datum::Int(_) | Datum::Float(_) => 5,
+        Datum::Bool(_) => 2,
+    }
 }
 
-/// So many values. None where a reference in them names no string.
-fn read_fixed(
-    listing: &mut Listing,
-    names: &StringWords,
-    room: &mut Room,
-    count: u8,
-) -> Read<Option<Vec<Datum>>>
-    ensures values { IfOk result (λ found. IfSome found (λ v. ReadsData (vec_len names.now.spelled) room.old.left room.new.left v.items)) }
-    ensures count { IfOk result (λ found. IfSome found (λ v. length v.items ≡ count)) }
-    ensures room { OnOk result (room.new.left ≤ room.old.left) }
+/// A value.
+fn read_datum(listing: &mut Listing, names: &StringWords) -> Datum
+    ensures { Gives (IsShapedDatum (vec_len names.now.spelled) result) (form.datum (spelled_in names.now) result) (length (spell.datum result)) listing.old listing.new }
+{
+    let value = read_value(listing, names);
+    listing.spend(size_of(value));
+    value
+}
+
+/// So many values.
+fn read_fixed(listing: &mut Listing, names: &StringWords, count: u8) -> Read<Vec<Datum>>
+    ensures values { IfOk result (λ v. Gives (AllByRecursion (IsShapedDatum (vec_len names.now.spelled)) v.items) (flat_map (form.datum (spelled_in names.now)) v.items) (length (flat_map spell.datum v.items)) listing.old listing.new) }
+    ensures count { IfOk result (λ v. length v.items ≡ count) }
 {
     let mut values = Vec::new(listing.alloc);
     for _place in 0..count {
-        if let Some(value) = read_datum(listing, names, room)? {
-            values.push(value)?;
-        }
+        values.push(read_datum(listing, names))?;
     }
-    if values.len() < count as usize {
-        return Ok(None);
-    }
-    Ok(Some(values))
+    Ok(values)
 }
 
-/// The values up to the end of the line, where some may stand there. None where a reference in them names no string.
-fn read_more(
-    listing: &mut Listing,
-    names: &StringWords,
-    room: &mut Room,
-    may_follow: bool,
-) -> Read<Option<Vec<Datum>>>
-    ensures values { IfOk result (λ found. IfSome found (λ v. ReadsMore (vec_len names.now.spelled) may_follow room.old.left room.new.left v.items)) }
-    ensures room { OnOk result (room.new.left ≤ room.old.left) }
+/// The values up to the end of the line, where some may stand there. Each takes a byte or more.
+fn read_more(listing: &mut Listing, names: &StringWords, may_follow: bool) -> Read<Vec<Datum>>
+    ensures values { IfOk result (λ v. Gives (AllByRecursion (IsShapedDatum (vec_len names.now.spelled)) v.items) (flat_map (form.datum (spelled_in names.now)) v.items) (more_bytes may_follow + length (flat_map spell.datum v.items)) listing.old listing.new) }
+    ensures none { IfOk result (λ v. may_follow ≡ false → v.items ≡ []) }
 {
     let mut values = Vec::new(listing.alloc);
     if !may_follow {
-        listing.end_of_line()?;
-        return Ok(Some(values));
+        return Ok(values);
     }
-    room.spend(5)?;
-    let mut all_known = true;
-    'values: while listing.fields.is_some() {
-        match read_datum(listing, names, room)? {
-            Some(value) => values.push(value)?,
-            None => all_known = false,
+    listing.spend(5);
+    for _place in 0..listing.room.left {
+        if !listing.has_field() {
+            return Ok(values);
         }
+        values.push(read_datum(listing, names))?;
     }
-    if !all_known {
-        return Ok(None);
-    }
-    Ok(Some(values))
+    Ok(values)
 }
 
 impl Item for Instruction {
@@ -98,16 +96,20 @@ impl Item for Instruction {
 
     ghost spelling = { λ i. spell.instruction (plain_instruction i) };
 
-    fn read(listing: &mut Listing, names: &StringWords, room: &mut Room) -> Read<Self> {
-        let opcode = listing.opcode;
+    ghost lines = { λ spelled i. form.instruction spelled (plain_instruction i) };
+
+    fn is_next(listing: &Listing) -> bool {
+        listing.is_at_opcode()
+    }
+
+    fn read(listing: &mut Listing, names: &StringWords) -> Read<Self> {
+        let opcode = listing.opcode()?;
         let Some((count, may_follow)) = operand_count(opcode) else {
             return Err(BAD_LINE);
         };
-        room.spend(1)?;
-        let fixed = read_fixed(listing, names, room, count)?;
-        let more = read_more(listing, names, room, may_follow)?;
-        let fixed = fixed.ok_or(BAD_NAME)?;
-        let more = more.ok_or(BAD_NAME)?;
+        listing.spend(1);
+        let fixed = read_fixed(listing, names, count)?;
+        let more = read_more(listing, names, may_follow)?;
         listing.next_line()?;
         Ok(Instruction {
             opcode,
@@ -117,48 +119,51 @@ impl Item for Instruction {
     }
 }
 
-/// A name with its type, as a `param` or `local` line has it.
-impl Item for (u16, u16) {
-    ghost holds = { ArePair };
-
-    ghost spelling = { spell.pair };
-
-    fn read(listing: &mut Listing, names: &StringWords, room: &mut Room) -> Read<Self> {
-        room.spend(4)?;
-        let name = listing.reference(names)?;
-        let kind = listing.reference(names)?;
-        listing.end_of_line()?;
-        let pair = (names.known(name)?, names.known(kind)?);
-        listing.next_line()?;
-        Ok(pair)
-    }
+/// A name with its type, as a line has it that begins with this word.
+fn read_pair(listing: &mut Listing, names: &StringWords, word: &[u8]) -> Read<(u16, u16)>
+    ensures holds { IfOk result (ArePair (vec_len names.now.spelled)) }
+    ensures line { IfOk result (λ pair. TakesLines (form.pair (spelled_in names.now) word.now pair) (length (spell.pair pair)) listing.old listing.new) }
+{
+    listing.expect(word)?;
+    listing.spend(4);
+    let name = listing.reference(names);
+    let kind = listing.reference(names);
+    listing.next_line()?;
+    Ok((name, kind))
 }
 
-/// The rest of the line that a function begins with, the name before which is known, and the lines behind it. The
-/// bytes of a function with empty lists were taken before.
-fn read_function(
-    listing: &mut Listing,
-    names: &StringWords,
-    room: &mut Room,
-    is_known: bool,
-) -> Read<PexFunction>
-    ensures holds { IfOk result (HoldsFunction (vec_len names.now.spelled)) }
-    ensures room { IfOk result (λ f. room.new.left + length (spell.function (plain_function f)) ≤ room.old.left + 15) }
+/// All `param` or `local` lines that follow.
+fn read_pairs(listing: &mut Listing, names: &StringWords, word: &[u8]) -> Read<Vec<(u16, u16)>>
+    ensures { IfOk result (λ pairs. ReadsAll (ArePair (vec_len names.now.spelled)) spell.pair (form.pair (spelled_in names.now) word.now) listing.old listing.new pairs.items) }
 {
-    let result = listing.reference(names)?;
-    let doc = listing.reference(names)?;
-    let flags = listing.unsigned_32()?;
-    let bits = listing.unsigned_8()?;
-    listing.end_of_line()?;
-    let result = names.known(result)?;
-    let doc = names.known(doc)?;
-    if !is_known {
-        return Err(BAD_NAME);
+    let mut pairs = Vec::new(listing.alloc);
+    for _place in 0..MOST_ITEMS {
+        if !listing.is_at(word) {
+            return Ok(pairs);
+        }
+        pairs.push(read_pair(listing, names, word)?)?;
     }
+    if listing.is_at(word) {
+        return Err(BAD_LINE);
+    }
+    Ok(pairs)
+}
+
+/// The rest of the line that a function begins with, and the lines behind it. The bytes of a function with empty lists
+/// were taken before.
+fn read_function(listing: &mut Listing, names: &StringWords) -> Read<PexFunction>
+    ensures holds { IfOk result (HoldsFunction (vec_len names.now.spelled)) }
+    ensures good { IfOk result (λ _. Good listing.old) }
+    ensures lines { IfOk result (λ f. Continues (form.function (spelled_in names.now) (plain_function f)) (length (spell.function (plain_function f))) 15 listing.old listing.new) }
+{
+    let result = listing.reference(names);
+    let doc = listing.reference(names);
+    let flags = listing.unsigned_32();
+    let bits = listing.unsigned_8();
     listing.next_line()?;
-    let parameters = read_all(listing, names, room, FirstWord::Word(b"param"))?;
-    let locals = read_all(listing, names, room, FirstWord::Word(b"local"))?;
-    let code = read_all(listing, names, room, FirstWord::Opcode)?;
+    let parameters = read_pairs(listing, names, b"param")?;
+    let locals = read_pairs(listing, names, b"local")?;
+    let code = read_all(listing, names)?;
     Ok(PexFunction {
         result,
         doc,
@@ -176,11 +181,17 @@ impl Item for (u16, PexFunction) {
 
     ghost spelling = { λ f. spell.named (plain_named f) };
 
-    fn read(listing: &mut Listing, names: &StringWords, room: &mut Room) -> Read<Self> {
-        room.spend(17)?;
-        let name = listing.reference(names)?;
-        let function = read_function(listing, names, room, name.is_some())?;
-        let name = names.known(name)?;
+    ghost lines = { λ spelled f. form.named spelled (plain_named f) };
+
+    fn is_next(listing: &Listing) -> bool {
+        listing.is_at(b"function")
+    }
+
+    fn read(listing: &mut Listing, names: &StringWords) -> Read<Self> {
+        listing.expect(b"function")?;
+        listing.spend(17);
+        let name = listing.reference(names);
+        let function = read_function(listing, names)?;
         Ok((name, function))
     }
 }
@@ -190,17 +201,16 @@ impl Item for (u16, PexFunction) {
 fn read_accessor(
     listing: &mut Listing,
     names: &StringWords,
-    room: &mut Room,
     word: &[u8],
     is_asked: bool,
 ) -> Read<Option<PexFunction>>
-    ensures { IfOk result (ReadsAccessor (vec_len names.now.spelled) is_asked room.old.left room.new.left) }
+    ensures { IfOk result (ReadsAccessor (vec_len names.now.spelled) (spelled_in names.now) word.now is_asked listing.old listing.new) }
 {
     if !is_asked {
         return Ok(None);
     }
     listing.expect(word)?;
-    Ok(Some(read_function(listing, names, room, true)?))
+    Ok(Some(read_function(listing, names)?))
 }
 
 impl Item for PexVariable {
@@ -208,22 +218,26 @@ impl Item for PexVariable {
 
     ghost spelling = { spell.variable };
 
-    fn read(listing: &mut Listing, names: &StringWords, room: &mut Room) -> Read<Self> {
-        room.spend(8)?;
-        let name = listing.reference(names)?;
-        let kind = listing.reference(names)?;
-        let flags = listing.unsigned_32()?;
-        let value = read_datum(listing, names, room)?;
-        listing.end_of_line()?;
-        let value = value.ok_or(BAD_NAME)?;
-        let variable = PexVariable {
-            name: names.known(name)?,
-            kind: names.known(kind)?,
+    ghost lines = { form.variable };
+
+    fn is_next(listing: &Listing) -> bool {
+        listing.is_at(b"variable")
+    }
+
+    fn read(listing: &mut Listing, names: &StringWords) -> Read<Self> {
+        listing.expect(b"variable")?;
+        listing.spend(8);
+        let name = listing.reference(names);
+        let kind = listing.reference(names);
+        let flags = listing.unsigned_32();
+        let value = read_datum(listing, names);
+        listing.next_line()?;
+        Ok(PexVariable {
+            name,
+            kind,
             flags,
             value,
-        };
-        listing.next_line()?;
-        Ok(variable)
+        })
     }
 }
 
@@ -235,21 +249,15 @@ fn least_bytes(is_asked: bool) -> u32
 }
 
 /// The reference to the variable of a property, which stands only where the bits ask for it.
-fn read_property_variable(
-    listing: &mut Listing,
-    names: &StringWords,
-    room: &mut Room,
-    bits: u8,
-) -> Read<Option<Option<u16>>>
-    ensures asked_for { IfOk result (λ found. IfSome found (λ variable. is_some variable ≡ bits_of.has_variable bits)) }
-    ensures variable { IfOk result (λ found. IfSome found (λ variable. IfSome variable (IsReference (vec_len names.now.spelled)))) }
-    ensures room { IfOk result (λ found. IfSome found (λ variable. room.new.left + length (spell.optional spell.two_bytes variable) ≤ room.old.left)) }
+fn read_property_variable(listing: &mut Listing, names: &StringWords, bits: u8) -> Option<u16>
+    ensures asked_for { is_some result ≡ bits_of.has_variable bits }
+    ensures variable { Gives (IfSome result (IsReference (vec_len names.now.spelled))) (form.own_variable (spelled_in names.now) result) (length (spell.optional spell.two_bytes result)) listing.old listing.new }
 {
     if !has_variable(bits) {
-        return Ok(Some(None));
+        return None;
     }
-    room.spend(2)?;
-    Ok(listing.reference(names)?.map(Some))
+    listing.spend(2);
+    Some(listing.reference(names))
 }
 
 /// The bytes of the functions that must follow are taken with those of the line.
@@ -258,25 +266,27 @@ impl Item for PexProperty {
 
     ghost spelling = { λ p. spell.property (plain_property p) };
 
-    fn read(listing: &mut Listing, names: &StringWords, room: &mut Room) -> Read<Self> {
-        room.spend(11)?;
-        let name = listing.reference(names)?;
-        let kind = listing.reference(names)?;
-        let doc = listing.reference(names)?;
-        let flags = listing.unsigned_32()?;
-        let bits = listing.unsigned_8()?;
-        let variable = read_property_variable(listing, names, room, bits)?;
-        listing.end_of_line()?;
+    ghost lines = { λ spelled p. form.property spelled (plain_property p) };
+
+    fn is_next(listing: &Listing) -> bool {
+        listing.is_at(b"property")
+    }
+
+    fn read(listing: &mut Listing, names: &StringWords) -> Read<Self> {
+        listing.expect(b"property")?;
+        listing.spend(11);
+        let name = listing.reference(names);
+        let kind = listing.reference(names);
+        let doc = listing.reference(names);
+        let flags = listing.unsigned_32();
+        let bits = listing.unsigned_8();
+        let variable = read_property_variable(listing, names, bits);
         let reads = has_read(bits);
         let writes = has_write(bits);
-        room.spend(least_bytes(reads) + least_bytes(writes))?;
-        let name = names.known(name)?;
-        let kind = names.known(kind)?;
-        let doc = names.known(doc)?;
-        let variable = variable.ok_or(BAD_NAME)?;
+        listing.spend(least_bytes(reads) + least_bytes(writes));
         listing.next_line()?;
-        let read = read_accessor(listing, names, room, b"read", reads)?;
-        let write = read_accessor(listing, names, room, b"write", writes)?;
+        let read = read_accessor(listing, names, b"read", reads)?;
+        let write = read_accessor(listing, names, b"write", writes)?;
         Ok(PexProperty {
             name,
             kind,
@@ -295,13 +305,18 @@ impl Item for PexState {
 
     ghost spelling = { λ s. spell.state (plain_state s) };
 
-    fn read(listing: &mut Listing, names: &StringWords, room: &mut Room) -> Read<Self> {
-        room.spend(4)?;
-        let name = listing.reference(names)?;
-        listing.end_of_line()?;
-        let name = names.known(name)?;
+    ghost lines = { λ spelled s. form.state spelled (plain_state s) };
+
+    fn is_next(listing: &Listing) -> bool {
+        listing.is_at(b"state")
+    }
+
+    fn read(listing: &mut Listing, names: &StringWords) -> Read<Self> {
+        listing.expect(b"state")?;
+        listing.spend(4);
+        let name = listing.reference(names);
         listing.next_line()?;
-        let functions = read_all(listing, names, room, FirstWord::Word(b"function"))?;
+        let functions = read_all(listing, names)?;
         Ok(PexState { name, functions })
     }
 }
@@ -311,23 +326,25 @@ impl Item for PexObject {
 
     ghost spelling = { λ o. spell.object (plain_object o) };
 
-    fn read(listing: &mut Listing, names: &StringWords, room: &mut Room) -> Read<Self> {
-        room.spend(22)?;
-        let name = listing.reference(names)?;
-        let size_form = listing.size_form()?;
-        let parent = listing.reference(names)?;
-        let doc = listing.reference(names)?;
-        let flags = listing.unsigned_32()?;
-        let auto_state = listing.reference(names)?;
-        listing.end_of_line()?;
-        let name = names.known(name)?;
-        let parent = names.known(parent)?;
-        let doc = names.known(doc)?;
-        let auto_state = names.known(auto_state)?;
+    ghost lines = { λ spelled o. form.object spelled (plain_object o) };
+
+    fn is_next(listing: &Listing) -> bool {
+        listing.is_at(b"object")
+    }
+
+    fn read(listing: &mut Listing, names: &StringWords) -> Read<Self> {
+        listing.expect(b"object")?;
+        listing.spend(22);
+        let name = listing.reference(names);
+        let size_form = listing.size_form();
+        let parent = listing.reference(names);
+        let doc = listing.reference(names);
+        let flags = listing.unsigned_32();
+        let auto_state = listing.reference(names);
         listing.next_line()?;
-        let variables = read_all(listing, names, room, FirstWord::Word(b"variable"))?;
-        let properties = read_all(listing, names, room, FirstWord::Word(b"property"))?;
-        let states = read_all(listing, names, room, FirstWord::Word(b"state"))?;
+        let variables = read_all(listing, names)?;
+        let properties = read_all(listing, names)?;
+        let states = read_all(listing, names)?;
         Ok(PexObject {
             name,
             size_form,

@@ -205,7 +205,7 @@ impl Shown for Datum {
 const LAST: u8 = 0x23;
 
 /// The name of an opcode. No bytes where there is none.
-fn opcode_name(opcode: u8) -> &'static str
+pub(crate) fn opcode_name(opcode: u8) -> &'static str
     ensures { result.now ≡ form.opcode_name opcode }
 {
     if opcode > LAST {

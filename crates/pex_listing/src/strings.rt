@@ -1,13 +1,11 @@
 //! The strings of a file by their bytes, and how references to them are spelled.
 
-ghost use Rattle.std.specs.Prelude.{◌≡◌, ◌∷◌, ◌++◌, length, vec_len, if◌then◌else◌, IfOk, IfSome, OnOk, map};
+ghost use Rattle.std.specs.Prelude.{◌≡◌, ◌<◌, ◌∷◌, ◌++◌, length, vec_len, if◌then◌else◌, IfOk, IfSome, OnOk, map};
 ghost use Rattle.std.specs.Fmt.{decimal};
 ghost use Rattle.std.specs.List.{list_all, range_with_len};
-ghost use Rattle.pex_values.specs.Shape.{IsReference};
 ghost use Rattle.pex_listing.specs.Lines.{field, is_word_byte, is_word, reference};
 ghost use Rattle.pex_listing.specs.Spelled.{HasWords, Noted, spelled_in};
 
-use crate::faults::{BAD_NAME, Read};
 use itoa::Buffer;
 use papy_base::{Made, Text};
 use std::alloc::{AllocError, Global};
@@ -96,12 +94,15 @@ impl StringWords {
         u16::try_from(*self.first.get(bytes)?).ok()
     }
 
-    /// The reference of a field. A line is refused where one of them names no string.
-    pub(crate) fn known(&self, found: Option<u16>) -> Read<u16>
-        requires { IfSome found (IsReference (vec_len self.now.spelled)) }
-        ensures { IfOk result (IsReference (vec_len self.now.spelled)) }
+    /// How a reference to the string at this place is spelled, if there is one.
+    pub(crate) fn spelling_of(&self, place: u16) -> Option<&[u8]>
+        ensures spelled { IfSome result (λ bytes. bytes.now ≡ spelled_in self.now place) }
+        ensures known { IfSome result (λ _. place < vec_len self.now.spelled) }
     {
-        found.ok_or(BAD_NAME)
+        match self.spelled.get(place as usize) {
+            Some(spelled) => Some(spelled.as_slice()),
+            None => None,
+        }
     }
 
     /// Adds a reference as a field.

@@ -1,25 +1,38 @@
-use Rattle.std.proofs.Common.{vec_len, ap, arith}
+use Rattle.std.proofs.Common.{◌≡◌, ℕ, List, vec_len, length, ap, refl, sym, subst, arith}
+use Rattle.std.specs.Prelude.{Option, None}
+use Rattle.std.specs.List.{flat_map}
 use Rattle.pex_values.specs.declared.debug.PexDebug.{PexDebug}
 use Rattle.pex_values.specs.Fit.{IsCounted}
 use Rattle.pex_values.specs.Plain.{PlainLines, plain_lines, plain_debug}
 use Rattle.pex_values.specs.Shape.{IsShapedLines}
-use Rattle.pex_values.specs.Spelling.{lines}
+use Rattle.pex_values.specs.Spelling as spell
 use Rattle.pex_values.proofs.Sizes.{debug_size, no_debug_size}
-use Rattle.pex_listing.specs.Reading.{debug_rest}
-use Rattle.pex_listing.proofs.Views.{viewed}
+use Rattle.pex_listing.specs.declared.listing.Listing.{Listing}
+use Rattle.pex_listing.specs.Listing as form
+use Rattle.pex_listing.specs.Reading.{ReadsDebug, debug_rest, debug_start}
+use Rattle.pex_listing.specs.Spelled.{spelled_in}
+use Rattle.pex_listing.proofs.Taken.{lines_nothing}
+use Rattle.pex_listing.proofs.Parts.{viewed}
 use Rattle.pex_listing.proofs.assembling.read_entries.Goals as goal
 
 pub returns : goal.returns
 returns c =
     let n = vec_len c.args.names.now.spelled in
-    let es = viewed (IsShapedLines n) (λ (e : PlainLines). IsCounted e.lines) lines plain_lines _ _ c.in_ok-functions.functions.items c.in_ok-functions.ensures in
+    let es = viewed (IsShapedLines n) (λ (e : PlainLines). IsCounted e.lines) spell.lines (form.lines (spelled_in c.args.names.now)) plain_lines _ _ c.in_ok-functions.functions.items c.in_ok-functions.ensures in
     let d : PexDebug = record { time = c.in-Some.time; functions = c.in_ok-functions.functions } in
     let time = rw c.in-Some.is at c.requires in
     record {
       shaped = record { time = time; functions = es.shaped };
       fits = record { functions = es.counted; each = es.fits };
-      room = omega (arith, debug_size (plain_debug d), es.room, ap debug_rest c.in-Some.is);
+      start = ap debug_start c.in-Some.is;
+      bytes = length (flat_map spell.lines (plain_debug d).functions);
+      whole = omega (arith, debug_size (plain_debug d), ap debug_rest c.in-Some.is);
+      takes = es.takes;
     }
 
+no_entries : (n : ℕ) (s : ℕ → List ℕ) (time : Option ℕ) (l : Listing) → time ≡ None → ReadsDebug n s time l l None
+no_entries n s time l is =
+    subst (λ t. ReadsDebug n s t l l None) (sym is) (record { shaped = tt; fits = tt; start = refl; bytes = 0; whole = omega (arith, no_debug_size); takes = lines_nothing l })
+
 pub returns-in_default : goal.returns-in_default
-returns-in_default c = record { shaped = tt; fits = tt; room = omega (arith, no_debug_size) }
+returns-in_default c = no_entries (vec_len c.args.names.now.spelled) (spelled_in c.args.names.now) c.args.time c.args.listing.now c.in_default.is

@@ -1,7 +1,7 @@
-use Rattle.pex_listing.proofs.Taken.{takes_version}
+use Rattle.std.proofs.Common.{append_assoc, arith, rules}
+use Rattle.pex_listing.proofs.Taken.{begun_more, begun_noted, ended, lines_as}
 use Rattle.pex_listing.proofs.assembling.read_version.Goals as goal
 
 pub returns-clause-line : goal.returns-clause-line
 returns-clause-line c =
-    takes_version c.in_ok-minor.minor c.in_ok-time.time c.args.listing.now c.unsigned_8.new.self c.unsigned.new.self c.next_line.new.self
-    c.in_ok-expect.ensures c.in_ok-minor.ensures c.in_ok-time.ensures.taken c.in_ok-end_of_line.ensures c.in_ok-next_line.ensures.canonical c.in_ok-next_line.ensures.opened
+    lines_as (simp append_assoc) (omega arith) (ended (begun_more (begun_noted (begun_more c.in_ok-expect.ensures c.unsigned_8-minor.ensures) c.check.ensures) c.unsigned-time.ensures.taken) c.in_ok-next_line.ensures)

@@ -1,9 +1,11 @@
-use Rattle.std.proofs.Common.{vec_len}
-use Rattle.pex_listing.specs.Reading.{ReadsData}
+use Rattle.std.proofs.Common.{◌≡◌, true, length, vec_len}
+use Rattle.pex_values.specs.Shape.{IsShapedDatum}
+use Rattle.pex_values.specs.Spelling as spell
+use Rattle.pex_listing.specs.Listing as form
+use Rattle.pex_listing.specs.Spelled.{spelled_in}
+use Rattle.pex_listing.proofs.Parts.{ReadsFields}
 use Rattle.pex_listing.proofs.objects.read_more.Given as goal
 
-abbrev pub invariant-values : goal.invariant-values
-invariant-values l = ReadsData (vec_len l.names.spelled) l.initial.room.left l.room.left l.values.items
-
-abbrev pub decreases-values : goal.decreases-values
-decreases-values l = l.room.left
+abbrev pub invariant-loop-place : goal.invariant-loop-place
+invariant-loop-place l =
+    ReadsFields (IsShapedDatum (vec_len l.names.spelled)) (form.datum (spelled_in l.names)) spell.datum l.initial.listing l.listing l.values.items

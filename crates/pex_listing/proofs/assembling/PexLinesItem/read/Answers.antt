@@ -1,17 +1,25 @@
-use Rattle.std.proofs.Common.{ℕ, ◌<◌, ◌^◌, arith, rules}
+use Rattle.std.proofs.Common.{arith, rules}
 use Rattle.pex_values.specs.declared.debug.PexLines.{PexLines}
 use Rattle.pex_values.specs.Plain.{plain_lines}
-use Rattle.pex_values.specs.Spelling.{two_bytes}
 use Rattle.pex_values.proofs.Sizes.{lines_size}
-use Rattle.pex_listing.proofs.Views.{read_as}
+use Rattle.pex_listing.specs.Listing as form
+use Rattle.pex_listing.proofs.Taken.{begun_more, begun_spent, ended, lines_of}
 use Rattle.pex_listing.proofs.assembling.PexLinesItem.read.Goals as goal
 
 pub returns : goal.returns
+unfolding form.lines
 returns c =
-    let ns = read_as (λ (n : ℕ). n < 2 ^ 16) two_bytes _ _ c.in_ok-lines.lines.items c.in_ok-lines.ensures in
-    let e : PexLines = record { object = c.in_ok-known.field-0; state = c.in_ok-known-2.field-0; function = c.in_ok-known-3.field-0; kind = c.in_ok-kind.kind; lines = c.in_ok-lines.lines } in
+    let object = c.reference-object.ensures in
+    let state = c.reference-state.ensures in
+    let function = c.reference-function.ensures in
+    let kind = c.unsigned_8-kind.ensures in
+    let numbers = c.in_ok-lines.ensures in
+    let end = c.in_ok-next_line.ensures in
+    let good = kind.good (numbers.takes.good end.good) in
+    let held = numbers.holds end.good in
+    let e : PexLines = record { object = c.reference-object.result; state = c.reference-state.result; function = c.reference-function.result; kind = c.unsigned_8-kind.result; lines = c.in_ok-lines.lines } in
     record {
-      holds = (record { object = c.in_ok-known.ensures; state = c.in_ok-known-2.ensures; function = c.in_ok-known-3.ensures; kind = search rules; lines = ns.each }, ns.counted);
-      room = omega (arith, lines_size (plain_lines e), ns.room, c.in_ok-spend.ensures);
-      less = omega (arith, ns.room, c.in_ok-spend.ensures);
+      holds = (record { object = object.holds (state.takes.good (function.takes.good good)); state = state.holds (function.takes.good good); function = function.holds good; kind = search rules; lines = held.1 }, held.0);
+      lines = lines_of (omega (arith, lines_size (plain_lines e)))
+          (ended (begun_more (begun_more (begun_more (begun_more (begun_more (begun_spent c.in_ok-expect.ensures c.spend.ensures) object.takes) state.takes) function.takes) kind) numbers.takes) end);
     }

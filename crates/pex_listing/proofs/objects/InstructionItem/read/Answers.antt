@@ -6,7 +6,10 @@ use Rattle.pex_values.specs.Plain.{PlainInstruction, plain_instruction}
 use Rattle.pex_values.specs.Shape.{AgreesWith}
 use Rattle.pex_values.specs.Spelling.{datum, instruction}
 use Rattle.pex_values.proofs.Sizes.{plain_size, counted_size}
+use Rattle.pex_listing.specs.Listing as form
 use Rattle.pex_listing.specs.Reading.{more_bytes}
+use Rattle.pex_listing.proofs.Parts.{few_values}
+use Rattle.pex_listing.proofs.Taken.{begun_more, begun_spent, ended, lines_of}
 use Rattle.pex_listing.proofs.objects.InstructionItem.read.Goals as goal
 
 agrees : {X : Type 0} (n fixed : ℕ) (may_follow : Bool) (more : List X) → fixed ≡ n → (may_follow ≡ false → more ≡ []) → AgreesWith (Some (n, may_follow)) fixed (length more)
@@ -21,22 +24,24 @@ size i n false is none =
     omega (arith, plain_size i n is, nothing)
 
 pub returns : goal.returns
+unfolding form.instruction
 returns c =
     let is = sym c.operand_count.ensures ∙ c.in-Some.is in
-    let got = rw c.in_ok-fixed-2.ensures.ok_part at c.in_ok-fixed.ensures.values in
-    let count = rw c.in_ok-fixed-2.ensures.ok_part at c.in_ok-fixed.ensures.count in
-    let rest = rw c.in_ok-more-2.ensures.ok_part at c.in_ok-more.ensures.values in
-    let i : Instruction = record { opcode = c.args.listing.now.opcode; fixed = c.in_ok-fixed-2.fixed; more = c.in_ok-more-2.more } in
+    let fixed = c.in_ok-fixed.ensures.values in
+    let more = c.in_ok-more.ensures in
+    let end = c.in_ok-next_line.ensures in
+    let i : Instruction = record { opcode = c.in_ok-opcode.opcode; fixed = c.in_ok-fixed.fixed; more = c.in_ok-more.more } in
+    let good = more.values.takes.good end.good in
+    let size_is = size (plain_instruction i) c.in-Some.count c.in-Some.may_follow is more.none in
     record {
       holds = (
         record {
           opcode = search rules;
-          operands = subst (λ (o : Option (ℕ × Bool)). AgreesWith o (length i.fixed.items) (length i.more.items)) (sym is) (agrees c.in-Some.count (length i.fixed.items) c.in-Some.may_follow i.more.items count rest.none);
-          fixed = got.each;
-          more = rest.each;
+          operands = subst (λ (o : Option (ℕ × Bool)). AgreesWith o (length i.fixed.items) (length i.more.items)) (sym is) (agrees c.in-Some.count (length i.fixed.items) c.in-Some.may_follow i.more.items c.in_ok-fixed.ensures.count more.none);
+          fixed = fixed.holds good;
+          more = more.values.holds end.good;
         },
-        omega (arith, rest.few, c.in_ok-fixed.ensures.room, c.in_ok-spend.ensures, c.args.room.now.within),
+        omega (arith, few_values i.more.items, more.values.takes.room end.good, c.read_fixed.new.listing.room.within),
       );
-      room = omega (arith, size (plain_instruction i) c.in-Some.count c.in-Some.may_follow is rest.none, got.room, rest.room, c.in_ok-spend.ensures);
-      less = omega (arith, c.in_ok-fixed.ensures.room, c.in_ok-more.ensures.room, c.in_ok-spend.ensures);
+      lines = lines_of (omega (arith, size_is)) (ended (begun_more (begun_more (begun_spent c.in_ok-opcode.ensures c.spend.ensures) fixed.takes) more.values.takes) end);
     }

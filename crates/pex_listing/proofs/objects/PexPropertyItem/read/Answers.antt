@@ -2,33 +2,43 @@ use Rattle.std.proofs.Common.{◌∙◌, arith, rules}
 use Rattle.pex_values.specs.declared.values.PexProperty.{PexProperty}
 use Rattle.pex_values.specs.Plain.{plain_property}
 use Rattle.pex_values.proofs.Sizes.{property_size}
+use Rattle.pex_listing.specs.Listing as form
+use Rattle.pex_listing.proofs.Taken.{begun_more, begun_spent, ended, lines_more, lines_of}
 use Rattle.pex_listing.proofs.objects.PexPropertyItem.read.Goals as goal
 
 pub returns : goal.returns
+unfolding form.property_line
 returns c =
-    let asked = rw c.in_ok-variable-2.ensures.ok_part at c.in_ok-variable.ensures.asked_for in
-    let known = rw c.in_ok-variable-2.ensures.ok_part at c.in_ok-variable.ensures.variable in
-    let taken = rw c.in_ok-variable-2.ensures.ok_part at c.in_ok-variable.ensures.room in
+    let name = c.reference-name.ensures in
+    let kind = c.reference-kind.ensures in
+    let doc = c.reference-doc.ensures in
+    let flags = c.unsigned_32-flags.ensures in
+    let bits = c.unsigned_8-bits.ensures in
+    let variable = c.read_property_variable-variable.ensures in
+    let end = c.in_ok-next_line.ensures in
+    let last = c.spend-2.ensures.good end.good in
+    let good = flags.good (bits.good (variable.variable.takes.good last)) in
     let r = c.in_ok-read.ensures in
     let w = c.in_ok-write.ensures in
-    let p : PexProperty = record { name = c.in_ok-name-2.name; kind = c.in_ok-kind-2.kind; doc = c.in_ok-doc-2.doc; flags = c.in_ok-flags.flags; bits = c.in_ok-bits.bits; variable = c.in_ok-variable-2.variable; read = c.in_ok-read.read; write = c.in_ok-write.write } in
+    let p : PexProperty = record { name = c.reference-name.result; kind = c.reference-kind.result; doc = c.reference-doc.result; flags = c.unsigned_32-flags.result; bits = c.unsigned_8-bits.result; variable = c.read_property_variable-variable.result; read = c.in_ok-read.read; write = c.in_ok-write.write } in
     record {
       holds = (
         record {
-          name = c.in_ok-name-2.ensures;
-          kind = c.in_ok-kind-2.ensures;
-          doc = c.in_ok-doc-2.ensures;
+          name = name.holds (kind.takes.good (doc.takes.good good));
+          kind = kind.holds (doc.takes.good good);
+          doc = doc.holds good;
           flags = search rules;
           bits = search rules;
-          has_variable = asked;
+          has_variable = variable.asked_for;
           has_read = r.asked_for ∙ c.has_read-reads.ensures;
           has_write = w.asked_for ∙ c.has_write-writes.ensures;
-          variable = known;
+          variable = variable.variable.holds last;
           read = r.shaped;
           write = w.shaped;
         },
         record { read = r.fits; write = w.fits },
       );
-      room = omega (arith, property_size (plain_property p), c.in_ok-spend.ensures, taken, c.in_ok-spend-2.ensures, c.least_bytes.ensures, c.least_bytes-2.ensures, r.room, w.room);
-      less = omega (arith, c.in_ok-spend.ensures, taken, c.in_ok-spend-2.ensures, c.least_bytes.ensures, c.least_bytes-2.ensures, r.room, w.room);
+      lines =
+          let begun = begun_more (begun_more (begun_more (begun_more (begun_more (begun_more (begun_spent c.in_ok-expect.ensures c.spend.ensures) name.takes) kind.takes) doc.takes) flags) bits) variable.variable.takes in
+          lines_of (omega (arith, property_size (plain_property p), c.least_bytes.ensures, c.least_bytes-2.ensures, r.whole, w.whole)) (lines_more (lines_more (ended (begun_spent begun c.spend-2.ensures) end) r.takes) w.takes);
     }

@@ -1,14 +1,21 @@
 use Rattle.std.proofs.Common.{arith, rules}
 use Rattle.pex_values.specs.declared.values.PexVariable.{PexVariable}
 use Rattle.pex_values.proofs.Sizes.{variable_size}
+use Rattle.pex_listing.specs.Listing as form
+use Rattle.pex_listing.proofs.Taken.{begun_more, begun_spent, ended, lines_of}
 use Rattle.pex_listing.proofs.objects.PexVariableItem.read.Goals as goal
 
 pub returns : goal.returns
+unfolding form.variable
 returns c =
-    let got = rw c.in_ok-value-2.ensures.ok_part at c.in_ok-value.ensures.value in
-    let v : PexVariable = record { name = c.in_ok-known.field-0; kind = c.in_ok-known-2.field-0; flags = c.in_ok-flags.flags; value = c.in_ok-value-2.value } in
+    let name = c.reference-name.ensures in
+    let kind = c.reference-kind.ensures in
+    let flags = c.unsigned_32-flags.ensures in
+    let value = c.read_datum-value.ensures in
+    let end = c.in_ok-next_line.ensures in
+    let good = value.takes.good end.good in
+    let v : PexVariable = record { name = c.reference-name.result; kind = c.reference-kind.result; flags = c.unsigned_32-flags.result; value = c.read_datum-value.result } in
     record {
-      holds = record { name = c.in_ok-known.ensures; kind = c.in_ok-known-2.ensures; flags = search rules; value = got.holds };
-      room = omega (arith, variable_size v, got.room, c.in_ok-spend.ensures);
-      less = omega (arith, got.less, c.in_ok-spend.ensures);
+      holds = record { name = name.holds (kind.takes.good (flags.good good)); kind = kind.holds (flags.good good); flags = search rules; value = value.holds end.good };
+      lines = lines_of (omega (arith, variable_size v)) (ended (begun_more (begun_more (begun_more (begun_more (begun_spent c.in_ok-expect.ensures c.spend.ensures) name.takes) kind.takes) flags) value.takes) end);
     }

@@ -2,7 +2,7 @@ use Rattle.std.proofs.Common.{◌≡◌, ◌≤◌, ◌++◌, vec_len, length}
 use Rattle.std.specs.Prelude.{IsTrue}
 use Rattle.std.specs.List.{flat_map}
 use Rattle.pex_listing.specs.Lines.{escaped}
-use Rattle.pex_listing.proofs.listing.unquote.Given as goal
+use Rattle.pex_listing.proofs.fields.unquote.Given as goal
 
 abbrev pub invariant-loop-rest : goal.invariant-loop-rest
 invariant-loop-rest l = record {
