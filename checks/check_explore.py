@@ -334,13 +334,18 @@ def check_expected(tally, room):
             tally.note("" if is_so else f"expectations {number}: broken-{place}.json doesn't break {expectation}: {text.decode()}")
 
 
+def hear_interrupts():
+    """Lets a process end at SIGINT, whatever it was started by."""
+    signal.signal(signal.SIGINT, signal.SIG_DFL)
+
+
 def check_stopped(tally, room, name):
     """Ctrl-C ends random runs, and those that were made are told."""
     words = [sys.executable, str(ROOT / "tools" / "explore.py"), name, *room.files, "--random", "1000000", "--of", "Seen"]
     streams = {"stdin": subprocess.DEVNULL, "stdout": subprocess.PIPE, "stderr": subprocess.PIPE}
     for seconds in (2, 10, 40):
-        # A busy machine may not have begun earlier.
-        ran = subprocess.Popen(words, cwd=room.folder, env={**os.environ, "PAPYRUS_PROGRAM": str(room.program)}, **streams)
+        # A busy machine may not have begun earlier. What a shell starts in the background is deaf to SIGINT, and so is what that starts.
+        ran = subprocess.Popen(words, cwd=room.folder, env={**os.environ, "PAPYRUS_PROGRAM": str(room.program)}, preexec_fn=hear_interrupts, **streams)
         time.sleep(seconds)
         ran.send_signal(signal.SIGINT)
         text, notes = ran.communicate(timeout=100)
