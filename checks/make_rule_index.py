@@ -98,9 +98,9 @@ class Shown:
 
     def __init__(self):
         self.cases, self.rows = {}, {}
-        for notes in sorted(CASES.glob("*/notes")):
+        for notes in sorted(CASES.rglob("notes")):
             for code in self.codes(notes.read_bytes().decode("latin-1")):
-                self.cases.setdefault(code, []).append(notes.parent.name)
+                self.cases.setdefault(code, []).append(str(notes.parent.relative_to(CASES)))
         for path in sorted(CASES.glob("*.rows")):
             for line in path.read_bytes().decode("latin-1").splitlines():
                 for code in self.codes(line.rpartition("  =>  ")[2]):
