@@ -17,7 +17,7 @@ HEADING = re.compile(r"^### ([A-Z]\d+) (\w+)$|^\| ([A-Z]\d+) (\w+) \|", re.MULTI
 CASES_SHOWN = 3
 HEAD = """# Index of rules
 
-Each rule leads to [rules.md](rules.md), which says exactly where it is broken, with an example and how to mend it. Beside it stand the code that tells it, files of definitions in the language of contracts that speak of it, tests of the crates, and cases;
+Each rule leads to [rules.md](rules.md), which says where it is broken, with an example and how to mend it. Beside it stand the code that tells it, files of definitions in the language of contracts that speak of it, tests of the crates, and cases;
 behind a file of rows stands how many of them show the rule. [`checks/make_rule_index.py`](../checks/make_rule_index.py) writes this page: call it again when rules, tests or cases have changed.
 """
 
