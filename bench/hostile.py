@@ -35,9 +35,11 @@ import subprocess
 import sys
 import tempfile
 
-import hostile_limits
-
 ROOT = pathlib.Path(__file__).resolve().parent.parent
+sys.path.insert(0, str(ROOT / "cases"))
+import hostile_limits
+import rows
+
 SECONDS = 10
 PARTS = 200
 NOT_FILES = {"args", "status", "out", "notes", "after", "listed", "made", "judge", "closed", "room", "memory", "generate", "earlier", "README.md", "report"}
@@ -75,13 +77,24 @@ class Corpus:
 
     def take_all(self, folders):
         for folder in folders:
-            for inner in sorted(path for path in folder.iterdir() if path.is_dir()):
-                self.take(inner)
+            inner = {path for path in folder.iterdir() if path.is_dir()} | {path.parent for path in folder.rglob("args")}
+            for path in sorted(inner):
+                self.take(path)
+            for path in sorted(folder.glob("*.rows")):
+                self.take_rows(path)
+
+    def take_rows(self, path):
+        for row in rows.rows_of(path):
+            files = dict(laid_as(name, text.encode("latin-1")) for name, text in getattr(row, "files", {}).items() if len(text) < 100_000)
+            self.take_set(getattr(row, "words", []), files)
 
     def take(self, folder):
         files = dict(laid(path) for path in sorted(folder.iterdir()) if path.is_file() and path.name not in NOT_FILES and path.stat().st_size < 100_000)
         args = folder / "args"
         words = args.read_text(errors="replace").splitlines() if args.exists() else []
+        self.take_set(words, files)
+
+    def take_set(self, words, files):
         if files:
             self.sets.append((words, files))
         for name, content in files.items():
@@ -92,11 +105,16 @@ CORPUS = Corpus()
 
 
 def laid(path):
-    """The name and the bytes of a file; NAME.hex holds hexadecimal digits."""
-    if path.suffix != ".hex":
-        return path.name, path.read_bytes()
-    digits = "".join(line.split("#")[0] for line in path.read_text().splitlines())
-    return path.name[: -len(".hex")], bytes.fromhex(digits)
+    """The name and the bytes of a file."""
+    return laid_as(path.name, path.read_bytes())
+
+
+def laid_as(name, content):
+    """The name and the bytes with which a file is laid; NAME.hex holds hexadecimal digits."""
+    if not name.endswith(".hex"):
+        return name, content
+    digits = "".join(line.split("#")[0] for line in content.decode().splitlines())
+    return name[: -len(".hex")], bytes.fromhex(digits)
 
 
 def kind_of(name):

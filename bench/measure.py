@@ -27,7 +27,7 @@ def tool(name):
 
 def environment():
     """The environment in which the launcher runs the program."""
-    lines = (ROOT / "tools" / "environment").read_text().splitlines()
+    lines = (ROOT / "tools" / "environment.sh").read_text().splitlines()
     settings = dict(line.split("=", 1) for line in lines if not line.startswith("#"))
     return {**settings, **os.environ}
 

@@ -33,14 +33,14 @@ sys.path.insert(0, str(ROOT / "cases"))
 import run as black_box
 
 NAMES = (
-    "once_trace",
-    "show_object_with_counted_size",
-    "asm_object_with_counted_size",
-    "asm_g2_index_of_a_spelled_string",
-    "asm_g4_last_line_without_line_feed",
-    "run_gate_and_controller",
-    "compile_two_scripts",
-    "exec_compiled_gate_and_controller",
+    "once/trace",
+    "show/object_with_counted_size",
+    "asm/object_with_counted_size",
+    "asm/g2_index_of_a_spelled_string",
+    "asm/g4_last_line_without_line_feed",
+    "run/gate_and_controller",
+    "compile/two_scripts",
+    "exec/compiled_gate_and_controller",
 )
 OUT_OF_MEMORY = b"papyrus: out of memory\n"
 # So many runs share a folder, whose files are laid anew where a run changed them.
@@ -177,7 +177,7 @@ def run_case(library, pool, case, most):
     """Prints what came of a case, and gives the number of its runs and of the wrong ones."""
     failed = black_box.run(case)
     if failed:
-        print(f"{case.name}: failed, with all its memory too", *(f"    {line}" for line in failed), sep="\n")
+        print(f"{black_box.name_of(case)}: failed, with all its memory too", *(f"    {line}" for line in failed), sep="\n")
         return 1, 1
     whole = whole_run(library, case)
     runs = [(number, behind) for behind in (False, True) for number in spread(whole.allocations, most)]
@@ -187,7 +187,7 @@ def run_case(library, pool, case, most):
         counts += found
         wrong += bad
     ended = ", ".join(f"{counts[status]} with status {status}" for status in sorted(counts))
-    print(f"{case.name}: {whole.allocations} allocations, {whole.at_start} of them at the start; {ended}", flush=True)
+    print(f"{black_box.name_of(case)}: {whole.allocations} allocations, {whole.at_start} of them at the start; {ended}", flush=True)
     for text in wrong[:SHOWN]:
         print(f"    {text}", flush=True)
     return len(runs), len(wrong)
@@ -195,8 +195,7 @@ def run_case(library, pool, case, most):
 
 def cases_of(words):
     if words.all:
-        every = sorted(path.parent for path in black_box.CASES.glob("*/args"))
-        return [case for case in every if not any((case / limit).exists() for limit in black_box.LIMITS)]
+        return [case for case in black_box.folders() if not any((case / limit).exists() for limit in black_box.LIMITS)]
     return [black_box.CASES / name for name in words.cases]
 
 

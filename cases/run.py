@@ -1,7 +1,7 @@
 #!/usr/bin/env python3
 """Runs the black-box cases on the built program, side by side, and prints 'N passed, M failed'.
 
-A case is a folder here. `args` holds the words, one a line; a word may have escapes such as \\xff for bytes that aren't text.
+A case is a folder COMMAND/NAME here. `args` holds the words, one a line; a word may have escapes such as \\xff for bytes that aren't text.
 Its other files but those named below are copied into a folder of their own, in which the program runs. A file NAME.hex holds
 hexadecimal digits, with comments from `#` to the line's end, and NAME is laid there with these bytes.
 
@@ -23,7 +23,8 @@ What is expected:
 
 Expected files are written by hand: this program never writes one.
 
-A file NAME.rows here has cases of one line each, which differ in little and are run as the folders are. It looks like this:
+A file NAME.rows here has cases that are small or differ in little, those of a command or of a theme, which are run as the folders are. It
+looks like this:
 
   # a comment; blank lines are skipped outside of [file ..]
   [file A.psc]
@@ -49,7 +50,7 @@ ones. In fields, answers, words and [out] `\\n`, `\\r`, `\\t`, `\\\\`, `\\|` and
 there afterwards as they were before, but for those that `compile`, `asm`, `lift`, `upgrade`, `journal` and `hold` write where they end with 0.
 
   run.py            every case
-  run.py NAME..     these cases: NAME of a folder or of a file of rows, NAME:LINE of a row
+  run.py NAME..     these cases: COMMAND/NAME of a folder, NAME of a file of rows, NAME:LINE of a row
   run.py -j N       N cases at a time
 
 Where the environment has PAPYRUS_PROGRAM, that program is run, and else the one that was built last.
@@ -237,9 +238,17 @@ def run(case):
             return [f"no end within {SECONDS} seconds"]
 
 
+def folders():
+    """The cases that are folders."""
+    return sorted(path.parent for path in CASES.rglob("args"))
+
+
+def name_of(case):
+    return str(case.relative_to(CASES)) if isinstance(case, pathlib.Path) else case.name
+
+
 def all_cases():
-    folders = sorted(path for path in CASES.iterdir() if (path / "args").exists())
-    return folders + [row for path in sorted(CASES.glob("*.rows")) for row in rows.rows_of(path)]
+    return folders() + [row for path in sorted(CASES.glob("*.rows")) for row in rows.rows_of(path)]
 
 
 def cases_named(name):
@@ -268,7 +277,7 @@ def main():
         for case, wrong in zip(cases, pool.map(run, cases)):
             if wrong:
                 failed += 1
-                print(f"{case.name}: failed", *(f"    {line}" for line in wrong), sep="\n")
+                print(f"{name_of(case)}: failed", *(f"    {line}" for line in wrong), sep="\n")
     print(f"{len(cases) - failed} passed, {failed} failed")
     return 1 if failed or not cases else 0
 

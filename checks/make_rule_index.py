@@ -11,26 +11,14 @@ ROOT = pathlib.Path(__file__).resolve().parent.parent
 DOCS = ROOT / "docs"
 CRATES = ROOT / "crates"
 CASES = ROOT / "cases"
-# The pages on which all rules of a letter are defined in words; of the others rules.md says all.
-DEFINED = {
-    "L": "language.md#rules",
-    "S": "language.md#rules-of-lines-and-blocks",
-    "N": "language.md#rules-of-sets",
-    "K": "language.md#rules-of-types-and-names",
-    "P": "pex.md#when-bytes-are-refused",
-    "C": "scenes.md#rules",
-    "G": "pex.md#from-a-listing-to-a-file",
-    "V": "verification.md#rules",
-}
 # The texts of all rules stand in this file, which tells none.
 TEXTS = CRATES / "command_files" / "src" / "refusal.rt"
 HEADING = re.compile(r"^### ([A-Z]\d+) (\w+)$|^\| ([A-Z]\d+) (\w+) \|", re.MULTILINE)
 CASES_SHOWN = 3
 HEAD = """# Index of rules
 
-Where each rule is told, defined and shown. [rules.md](rules.md) has each with an example and how to mend it. The definitions in words are those of the pages; files of definitions in the language of contracts that speak of the rule stand beside them.
-Behind a file of rows stands how many of them show the rule. This page is written by
-[`checks/make_rule_index.py`](../checks/make_rule_index.py): change nothing here, but call it again when rules, tests or cases have changed.
+Each rule leads to [rules.md](rules.md), which says where it is broken, with an example and how to mend it. Beside it stand the code that tells it, files of definitions in the language of contracts that speak of it, tests of the crates, and cases;
+behind a file of rows stands how many of them show the rule. [`checks/make_rule_index.py`](../checks/make_rule_index.py) writes this page: call it again when rules, tests or cases have changed.
 """
 
 
@@ -110,9 +98,9 @@ class Shown:
 
     def __init__(self):
         self.cases, self.rows = {}, {}
-        for notes in sorted(CASES.glob("*/notes")):
+        for notes in sorted(CASES.rglob("notes")):
             for code in self.codes(notes.read_bytes().decode("latin-1")):
-                self.cases.setdefault(code, []).append(notes.parent.name)
+                self.cases.setdefault(code, []).append(str(notes.parent.relative_to(CASES)))
         for path in sorted(CASES.glob("*.rows")):
             for line in path.read_bytes().decode("latin-1").splitlines():
                 for code in self.codes(line.rpartition("  =>  ")[2]):
@@ -136,12 +124,10 @@ class Shown:
 def row(code, name, kind, sources, shown):
     heading = f"{code.lower()}-{name.lower()}"
     example = "rules.md#c-scenes" if code[0] == "C" else f"rules.md#{heading}"
-    words = DEFINED.get(code[0], example)
-    definitions = [f"[{words.partition('#')[0]}]({words})", *map(linked, sources.defining(kind, name))]
     cells = [
         f"[{code} {name}]({example})",
         ", ".join(map(linked, sources.telling(kind, name))),
-        ", ".join(definitions),
+        ", ".join(map(linked, sources.defining(kind, name))),
         ", ".join(map(linked, sources.testing(kind, code, name))),
         shown.cell(f"{code} {name}"),
     ]
@@ -154,7 +140,7 @@ def page(sources, shown):
     for code, name in rules():
         if code[0] != letter:
             letter = code[0]
-            lines += [f"\n## {letter}: {named[letter]}\n", "| Rule | Told in | Defined in | Tests | Cases |", "|---|---|---|---|---|"]
+            lines += [f"\n## {letter}: {named[letter]}\n", "| Rule | Told in | Definitions | Tests | Cases |", "|---|---|---|---|---|"]
         lines.append(row(code, name, types.get(f"{code} {name}", ""), sources, shown))
     return "\n".join(lines).replace("\n\n\n", "\n\n") + "\n"
 

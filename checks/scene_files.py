@@ -39,7 +39,7 @@ def scene_of_case(case):
             subprocess.run([sys.executable, str(case / "generate")], cwd=room, check=True)
         path = pathlib.Path(room) / scene.decode("utf-8", "surrogateescape")
         if path.is_file():
-            yield case.name, path.read_bytes(), rule_of(cases.expected_of(case, "notes"), scene)
+            yield cases.name_of(case), path.read_bytes(), rule_of(cases.expected_of(case, "notes"), scene)
 
 
 def scenes_of_rows(path):
@@ -56,7 +56,7 @@ def scenes_of_rows(path):
 
 def scenes():
     """Each scene: where it stands, its bytes, and the rule that refuses it."""
-    for case in sorted(path for path in CASES.iterdir() if (path / "args").exists()):
+    for case in sorted(path.parent for path in CASES.rglob("args")):
         yield from scene_of_case(case)
     for path in sorted(CASES.glob("*.rows")):
         yield from scenes_of_rows(path)

@@ -1,5 +1,0 @@
-ScriptName B
-
-Function G(Int n)
-m = n
-EndFunction

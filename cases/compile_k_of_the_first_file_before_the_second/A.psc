@@ -1,6 +1,0 @@
-ScriptName A
-B Property Other Auto
-
-Function F()
-Other.H(1)
-EndFunction

@@ -1,2 +1,0 @@
-ScriptName B
-Gate Door

@@ -1,3 +1,0 @@
-ScriptName B
-Int N
-Int n

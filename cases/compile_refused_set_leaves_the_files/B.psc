@@ -1,4 +1,0 @@
-ScriptName B
-Function F()
-n = 1
-EndFunction

@@ -1,7 +1,0 @@
-ScriptName C
-Int Property N Auto
-Function Bump()
-Int old = N
-Debug.Trace("x")
-N = old + 1
-EndFunction

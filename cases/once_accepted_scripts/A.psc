@@ -1,2 +1,0 @@
-ScriptName A extends B
-Int Property N = 3 Auto

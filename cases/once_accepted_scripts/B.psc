@@ -1,2 +1,0 @@
-ScriptName B extends Quest
-Import Debug

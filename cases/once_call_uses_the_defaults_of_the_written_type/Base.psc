@@ -1,3 +1,0 @@
-ScriptName Base
-Function F(Int n = 1)
-EndFunction

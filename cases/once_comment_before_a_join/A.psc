@@ -1,6 +1,0 @@
-ScriptName A
-Event OnInit()
-Int n = 1 + ;/ and /; \
-2
-Debug.Trace(n)
-EndEvent

@@ -1,5 +1,0 @@
-ScriptName A
-Event OnInit()
-While True
-EndWhile
-EndEvent

@@ -1,7 +1,0 @@
-ScriptName Deep
-Function F()
-F()
-EndFunction
-Event OnInit()
-F()
-EndEvent

@@ -1,7 +1,0 @@
-ScriptName Lib
-Int Function Max(Int a, Int b) Global
-If a > b
-  Return a
-EndIf
-Return b
-EndFunction

@@ -1,4 +1,0 @@
-ScriptName A
-Int Function F()
-Return
-EndFunction

@@ -1,4 +1,0 @@
-ScriptName A
-Event OnInit()
-Return 1
-EndEvent

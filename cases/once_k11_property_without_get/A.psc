@@ -1,8 +1,0 @@
-ScriptName A
-Int Property P
-Function Set(Int value)
-EndFunction
-EndProperty
-Event OnInit()
-Debug.Trace(P)
-EndEvent

@@ -1,4 +1,0 @@
-ScriptName A
-Event OnInit()
-Int[] a = new Int[0]
-EndEvent

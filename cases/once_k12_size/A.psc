@@ -1,5 +1,0 @@
-ScriptName A
-Event OnInit()
-Int[] a = new Int[128]
-a = new Int[129]
-EndEvent

@@ -1,4 +1,0 @@
-ScriptName A
-Event OnInit()
-Int n = Parent.Door().Uses + 1
-EndEvent

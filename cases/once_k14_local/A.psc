@@ -1,5 +1,0 @@
-ScriptName A
-Event OnInit()
-Int i = 0
-Int I = 1
-EndEvent

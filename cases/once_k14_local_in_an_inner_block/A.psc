@@ -1,7 +1,0 @@
-ScriptName A
-Event OnInit()
-Int n
-If True
-Int n
-EndIf
-EndEvent

@@ -1,4 +1,0 @@
-ScriptName A
-Event OnInit()
-Int n = OnInit().Uses
-EndEvent

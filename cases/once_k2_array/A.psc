@@ -1,4 +1,0 @@
-ScriptName A
-Event OnInit()
-Int n = (new Actor[3]).Length
-EndEvent

@@ -1,7 +1,0 @@
-ScriptName A
-Event OnInit()
-If True
-Bool x
-elif x
-EndIf
-EndEvent

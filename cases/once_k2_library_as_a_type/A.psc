@@ -1,4 +1,0 @@
-ScriptName A
-Event OnInit()
-Utility u
-EndEvent

@@ -1,2 +1,0 @@
-ScriptName A
-Gate Property Door Auto

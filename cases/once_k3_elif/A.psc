@@ -1,6 +1,0 @@
-ScriptName A
-Event OnInit()
-If True
-elif (False)
-EndIf
-EndEvent

@@ -1,5 +1,0 @@
-ScriptName A
-Event OnInit()
-Debug.Trace("a")
-Trace("b")
-EndEvent

@@ -1,4 +1,0 @@
-ScriptName B extends A
-Event OnInit()
-Help()
-EndEvent

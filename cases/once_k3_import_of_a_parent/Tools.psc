@@ -1,3 +1,0 @@
-ScriptName Tools
-Function Help() Global
-EndFunction

@@ -1,7 +1,0 @@
-ScriptName A
-Function Info() Global
-EndFunction
-Event OnInit()
-A a
-A.Info()
-EndEvent

@@ -1,6 +1,0 @@
-ScriptName A
-Import Child
-Event OnInit()
-Child.Help()
-Help()
-EndEvent

@@ -1,5 +1,0 @@
-ScriptName A
-Event OnInit()
-String s = "abc"
-Int n = s.Length
-EndEvent

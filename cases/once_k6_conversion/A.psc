@@ -1,5 +1,0 @@
-ScriptName A
-Event OnInit()
-Int[] a
-Debug.Trace(a)
-EndEvent

@@ -1,5 +1,0 @@
-ScriptName A
-Event OnInit()
-String x
-x = 1 + 2 * -3 as String
-EndEvent

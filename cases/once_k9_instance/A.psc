@@ -1,4 +1,0 @@
-ScriptName A
-Function F() Global
-Debug.Trace(Self)
-EndFunction

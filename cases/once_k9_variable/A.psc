@@ -1,5 +1,0 @@
-ScriptName A
-Int n
-Function F() Global
-n = 1
-EndFunction

@@ -1,2 +1,0 @@
-ScriptName A
-String s = "C:\data"

@@ -1,2 +1,0 @@
-ScriptName A
-Int x = 1.5

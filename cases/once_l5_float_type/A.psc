@@ -1,2 +1,0 @@
-ScriptName A
-float x = 1.5

@@ -1,4 +1,0 @@
-ScriptName A
-EndWhile
-Int n
-Float f

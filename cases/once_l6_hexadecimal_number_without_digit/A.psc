@@ -1,2 +1,0 @@
-ScriptName A
-Int n = 0x

@@ -1,3 +1,0 @@
-ScriptName A
-;/ a comment that has no end
-Int n

@@ -1,3 +1,0 @@
-ScriptName A
-{ A chest of gold.
-Int n

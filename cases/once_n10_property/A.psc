@@ -1,2 +1,0 @@
-ScriptName A extends B
-Int Property P Auto

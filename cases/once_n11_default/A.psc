@@ -1,3 +1,0 @@
-ScriptName A
-Function F(Int a = 1, Int b)
-EndFunction

@@ -1,3 +1,0 @@
-ScriptName A
-Int X
-Int x

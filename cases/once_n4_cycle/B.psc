@@ -1,1 +1,0 @@
-ScriptName B extends A

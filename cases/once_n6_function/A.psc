@@ -1,5 +1,0 @@
-ScriptName A
-Function F()
-EndFunction
-Event f()
-EndEvent

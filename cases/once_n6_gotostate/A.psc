@@ -1,3 +1,0 @@
-ScriptName A
-Function GotoState(String asNewState)
-EndFunction

@@ -1,3 +1,0 @@
-ScriptName A
-Int N
-String Property n Auto

@@ -1,5 +1,0 @@
-ScriptName A
-State Open
-EndState
-State OPEN
-EndState

@@ -1,5 +1,0 @@
-ScriptName A
-Auto State One
-EndState
-Auto State Two
-EndState

@@ -1,5 +1,0 @@
-ScriptName A
-State S
-Function F()
-EndFunction
-EndState

@@ -1,3 +1,0 @@
-ScriptName A
-Event OnEndState(Int x)
-EndEvent

@@ -1,2 +1,0 @@
-ScriptName A
-Int Function Level() Native

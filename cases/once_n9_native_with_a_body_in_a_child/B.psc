@@ -1,4 +1,0 @@
-ScriptName B extends A
-Int Function Level()
-Return 1
-EndFunction

@@ -1,4 +1,0 @@
-ScriptName A extends Quest
-Int Function OnInit()
-Return 1
-EndFunction

@@ -1,4 +1,0 @@
-ScriptName A
-Int Function ReadKey() Global Native
-Event OnInit()
-EndEvent

@@ -1,4 +1,0 @@
-ScriptName Base
-Int Function F(Int n)
-Return n + 1
-EndFunction

@@ -1,2 +1,0 @@
-ScriptName A
-Int Property P Auto {how many} Hidden

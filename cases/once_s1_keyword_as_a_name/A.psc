@@ -1,4 +1,0 @@
-ScriptName A
-Event OnInit()
-Int Length = 3
-EndEvent

@@ -1,5 +1,0 @@
-ScriptName A
-Event OnInit()
-Bool a
-Bool b = a as Int as Bool
-EndEvent

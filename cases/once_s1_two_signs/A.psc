@@ -1,4 +1,0 @@
-ScriptName A
-Event OnInit()
-Bool b = !!True
-EndEvent

@@ -1,5 +1,0 @@
-ScriptName A
-Event OnInit()
-If True
-EndWhile
-EndEvent

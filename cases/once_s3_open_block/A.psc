@@ -1,4 +1,0 @@
-ScriptName A
-Event OnInit()
-While True
-EndWhile

@@ -1,3 +1,0 @@
-ScriptName A
-Int Property P
-Int Property Q Auto

@@ -1,2 +1,0 @@
-ScriptName A
-ScriptName B

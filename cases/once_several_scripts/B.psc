@@ -1,4 +1,0 @@
-ScriptName B
-Event OnInit()
-Debug.Trace("b")
-EndEvent

@@ -1,8 +1,0 @@
-ScriptName Base
-Auto State S
-Function F()
-Debug.Trace("base S")
-EndFunction
-EndState
-Function F()
-EndFunction

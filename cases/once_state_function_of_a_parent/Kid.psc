@@ -1,9 +1,0 @@
-ScriptName Kid extends Base
-Function F()
-Debug.Trace("kid")
-EndFunction
-Event OnInit()
-F()
-GotoState("")
-F()
-EndEvent

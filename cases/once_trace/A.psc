@@ -1,4 +1,0 @@
-ScriptName A
-Event OnInit()
-Debug.Trace("a")
-EndEvent

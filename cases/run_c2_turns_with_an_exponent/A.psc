@@ -1,4 +1,0 @@
-ScriptName A
-Int Property N Auto
-Event OnInit()
-EndEvent

@@ -1,5 +1,0 @@
-ScriptName A
-State S
-  Event OnEndState()
-  EndEvent
-EndState

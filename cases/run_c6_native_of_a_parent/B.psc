@@ -1,2 +1,0 @@
-ScriptName B
-Function H() Native

@@ -1,2 +1,0 @@
-ScriptName A
-A[] Property All Auto

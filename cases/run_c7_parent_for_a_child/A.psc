@@ -1,2 +1,0 @@
-ScriptName A extends B
-A Property Child Auto

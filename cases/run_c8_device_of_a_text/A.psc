@@ -1,2 +1,0 @@
-ScriptName A
-Function H(String s) Global Native

@@ -1,2 +1,0 @@
-ScriptName A
-String Function H() Global Native

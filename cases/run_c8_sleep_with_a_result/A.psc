@@ -1,2 +1,0 @@
-ScriptName A
-Int Function H(Int n) Global Native

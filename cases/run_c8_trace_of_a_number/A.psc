@@ -1,2 +1,0 @@
-ScriptName A
-Function H(Int n, String s) Global Native

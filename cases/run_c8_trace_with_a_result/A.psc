@@ -1,2 +1,0 @@
-ScriptName A
-Bool Function H(String s) Global Native

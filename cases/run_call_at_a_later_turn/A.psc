@@ -1,3 +1,0 @@
-ScriptName A
-Event OnInit()
-EndEvent

@@ -1,1 +1,0 @@
-ScriptName A

@@ -1,5 +1,0 @@
-ScriptName D
-Int Function Read() Global Native
-Event OnInit()
-  Debug.Trace(Read())
-EndEvent

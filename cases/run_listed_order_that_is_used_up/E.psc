@@ -1,5 +1,0 @@
-ScriptName E
-Event OnInit()
-  Scene.Sleep(2)
-  Debug.Trace("up")
-EndEvent

@@ -1,7 +1,0 @@
-ScriptName W
-Int Property Passes Auto
-Function Spin()
-  While True
-    Passes += 1
-  EndWhile
-EndFunction

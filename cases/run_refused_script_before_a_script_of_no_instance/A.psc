@@ -1,4 +1,0 @@
-ScriptName A
-Event OnInit()
-n = 1
-EndEvent
