@@ -1,6 +1,6 @@
 //! Who holds each instance, and who waits.
 
-ghost use Rattle.std.specs.Prelude.{◌≡◌, ◌<◌, ◌++◌, ◌∷◌, [], ◌&&◌, is_none, IfOk, IsSome, IsTrue, length, replicate, slice_set};
+ghost use Rattle.std.specs.Prelude.{◌≡◌, ◌<◌, ◌++◌, ◌∷◌, [], ◌&&◌, ℕ, Some, is_none, IfOk, IsSome, IsTrue, length, replicate, slice_set};
 ghost use Rattle.std.specs.Option.{ForSome};
 ghost use Rattle.lock_queue.specs.LockTable.{IsIdle, seat_of, held_by, waits_for, owner_of, pairs_of, pairs_if, may_take, without_stack, waiter_after, ready_after, start_after};
 
@@ -168,6 +168,17 @@ impl Locks {
             Seat::Waits(instance) => Some(instance),
             _ => None,
         }
+    }
+
+    /// Each stack waits where its seat says so, and is the owner of what its seat holds. This is a law: it does nothing.
+    pub fn seats_agree(&self)
+        ensures waiters { (k : ℕ) → pairs_of self.now k ≡ pairs_if k (waits_for (seat_of self.now k)) }
+        ensures owners { (k instance : ℕ) → seat_of self.now k ≡ Seat.Holds instance → owner_of self.now instance ≡ Some k }
+        ensures held { (k instance : ℕ) → seat_of self.now k ≡ Seat.Holds instance → instance < self.now.instances }
+        ensures awaited { (k instance : ℕ) → seat_of self.now k ≡ Seat.Waits instance → instance < self.now.instances }
+        ensures few { length self.now.seats < 65536 }
+    {
+        let _ = &self.seats;
     }
 
     /// The first ready stack after this one, cyclically, or from 0. A stack is ready where it holds

@@ -1,0 +1,10 @@
+pub mod Calls
+pub mod Finding
+pub mod Moving
+pub mod Numbers
+pub mod Readiness
+pub mod Round
+pub mod Seats
+pub mod Sleeping
+pub mod Standing
+pub mod Waiters

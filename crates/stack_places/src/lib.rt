@@ -1,0 +1,7 @@
+//! Where each stack of a run is: it owns an instance, waits for one, runs free, sleeps or is done. Each move is the one that
+//! the meaning of scripts gives a world.
+#![tactic(auto)]
+
+mod places;
+
+pub use places::Places;
