@@ -1,15 +1,13 @@
 -- What names strings that are there still does once there are more strings.
-use Rattle.std.proofs.Common.{ℕ, ◌<◌, ◌≤◌, List, [], ◌∷◌, ◌++◌, map, Option, Some, None, arith}
+use Rattle.std.proofs.Common.{◌≡◌, ℕ, ◌≤◌, List, [], ◌∷◌, ◌++◌, map, take, drop, Option, Some, None, sym, subst, arith}
+use Rattle.std.proofs.lemmas.List.Elements.{All-from_recursion, recursion_from_All, All-take, All-drop}
 use Rattle.std.specs.Prelude.{Result, Ok, Err, IfOk, IfSome}
 use Rattle.std.specs.List.{AllByRecursion}
-use Rattle.jump_patch.specs.Jumps.{Buffer}
-use Rattle.pex_values.specs.declared.debug.PexLines.{PexLines}
 use Rattle.pex_values.specs.declared.values.Datum.{Datum}
 use Rattle.pex_values.specs.declared.values.Datum.TheVariants.{NoneValue, Word, Quoted, Int, Float, Bool as BoolByte}
 use Rattle.pex_values.specs.declared.values.PexVariable.{PexVariable}
-use Rattle.pex_values.specs.Plain.{PlainInstruction, PlainFunction, PlainState, PlainProperty, PlainObject, PlainLines, plain_lines}
+use Rattle.pex_values.specs.Plain.{PlainInstruction, PlainFunction, PlainState, PlainProperty, PlainObject, PlainLines}
 use Rattle.pex_values.specs.Shape.{IsReference, ArePair, IsShapedDatum, IsShapedInstruction, IsShapedFunction, IsShapedNamed, IsShapedState, IsShapedVariable, IsShapedProperty, IsShapedObject, IsShapedLines}
-use Rattle.code_emit.specs.Writing.{IsWriting}
 
 pub all_later : {A : Type 0} (P Q : A → Type 0) (each : (x : A) → P x → Q x) (xs : List A) → AllByRecursion P xs → AllByRecursion Q xs
 all_later P Q each [] all = tt
@@ -31,6 +29,18 @@ each_grown P Q view later (y ∷ ys) x all here = (later (view y) all.0, each_gr
 pub list_grown : {X : Type 0} (P Q : X → Type 0) (later : (x : X) → P x → Q x) (xs : List X) (x : X) → AllByRecursion P xs → Q x → AllByRecursion Q (xs ++ x ∷ [])
 list_grown P Q later [] x all here = (here, tt)
 list_grown P Q later (y ∷ ys) x all here = (later y all.0, list_grown P Q later ys x all.1 here)
+
+take_each : {X : Type 0} (P : X → Type 0) (n : ℕ) (xs : List X) → AllByRecursion P xs → AllByRecursion P (take n xs)
+take_each P n xs each = recursion_from_All P (take n xs) (All-take P n xs (All-from_recursion P xs each))
+
+drop_each : {X : Type 0} (P : X → Type 0) (n : ℕ) (xs : List X) → AllByRecursion P xs → AllByRecursion P (drop n xs)
+drop_each P n xs each = recursion_from_All P (drop n xs) (All-drop P n xs (All-from_recursion P xs each))
+
+pub taken_pairs : (n at : ℕ) (pairs part : List (ℕ × ℕ)) → part ≡ take at pairs → AllByRecursion (ArePair n) pairs → AllByRecursion (ArePair n) part
+taken_pairs n at pairs part is each = subst (λ (ps : List (ℕ × ℕ)). AllByRecursion (ArePair n) ps) (sym is) (take_each (ArePair n) at pairs each)
+
+pub dropped_pairs : (n at : ℕ) (pairs part : List (ℕ × ℕ)) → part ≡ drop at pairs → AllByRecursion (ArePair n) pairs → AllByRecursion (ArePair n) part
+dropped_pairs n at pairs part is each = subst (λ (ps : List (ℕ × ℕ)). AllByRecursion (ArePair n) ps) (sym is) (drop_each (ArePair n) at pairs each)
 
 module _ (n m : ℕ) (more : n ≤ m) where
   pub reference_later : (k : ℕ) → IsReference n k → IsReference m k
@@ -54,7 +64,7 @@ module _ (n m : ℕ) (more : n ≤ m) where
   instruction_later i is =
       record { opcode = is.opcode; operands = is.operands; fixed = data_later i.fixed is.fixed; more = data_later i.more is.more }
 
-  pairs_later : (ps : List (ℕ × ℕ)) → AllByRecursion (ArePair n) ps → AllByRecursion (ArePair m) ps
+  pub pairs_later : (ps : List (ℕ × ℕ)) → AllByRecursion (ArePair n) ps → AllByRecursion (ArePair m) ps
   pairs_later ps all = all_later (ArePair n) (ArePair m) pair_later ps all
 
   pub function_later : (f : PlainFunction) → IsShapedFunction n f → IsShapedFunction m f
@@ -124,19 +134,5 @@ module _ (n m : ℕ) (more : n ≤ m) where
     lines = is.lines;
   }
 
-  below_later : (k : ℕ) → k < n → k < m
-  below_later k below = omega arith
-
-  pub writing_later : (count : ℕ) (code : Buffer) (debug : List PexLines) (variables : List (ℕ × ℕ)) (spare : List (ℕ × ℕ)) (none : Option ℕ)
-      → IsWriting n count code debug variables spare none → IsWriting m count code debug variables spare none
-  writing_later count code debug variables spare none is = record {
-    count_is = is.count_is;
-    few = is.few;
-    ahead_are = is.ahead_are;
-    instructions = all_later (IsShapedInstruction n) (IsShapedInstruction m) instruction_later code.code is.instructions;
-    lines = is.lines;
-    entries = all_later (IsShapedLines n) (IsShapedLines m) lines_later (map plain_lines debug) is.entries;
-    variables_are = pairs_later variables is.variables_are;
-    spare_are = all_later (λ (s : ℕ × ℕ). s.1 < n) (λ (s : ℕ × ℕ). s.1 < m) (λ (s : ℕ × ℕ) (below : s.1 < n). below_later s.1 below) spare is.spare_are;
-    none_is = some_later (λ (k : ℕ). k < n) (λ (k : ℕ). k < m) below_later none is.none_is;
-  }
+  pub entries_later : (es : List PlainLines) → AllByRecursion (IsShapedLines n) es → AllByRecursion (IsShapedLines m) es
+  entries_later es all = all_later (IsShapedLines n) (IsShapedLines m) lines_later es all

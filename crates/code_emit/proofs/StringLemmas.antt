@@ -4,9 +4,10 @@ use Rattle.std.specs.List.{list_any}
 use Rattle.std.specs.declared.alloc.Global.{Global}
 use Rattle.std.specs.declared.vec.Vec.{Vec}
 use Rattle.std.specs.Str.{bytes_eq}
-use Rattle.std.proofs.lemmas.List.{map-append}
+use Rattle.std.proofs.lemmas.List.{append-nil, map-append}
 use Rattle.indexmap.specs.IndexSet.{insert_key}
 use Rattle.code_emit.specs.Strings.{with_string}
+use Rattle.code_emit.specs.Writing.{GoesOn}
 
 -- what is held, as lists
 abbrev pub shown : List (Vec ℕ Global) → List (List ℕ)
@@ -31,3 +32,10 @@ shown-insert_key ks k =
 
 pub found_string : (strings : List (List ℕ)) (string : List ℕ) → list_any (bytes_eq string) strings ≡ true → strings ≡ with_string strings string
 found_string strings string found = sym (ap (λ (b : Bool). cond b strings (strings ++ string ∷ [])) found)
+
+goes_either : (b : Bool) (strings : List (List ℕ)) (string : List ℕ) → GoesOn strings (cond b strings (strings ++ string ∷ []))
+goes_either true strings string = record { added = []; strings = sym (append-nil strings) }
+goes_either false strings string = record { added = string ∷ []; strings = refl }
+
+pub with_string_goes : (strings : List (List ℕ)) (string : List ℕ) → GoesOn strings (with_string strings string)
+with_string_goes strings string = goes_either (list_any (bytes_eq string) strings) strings string

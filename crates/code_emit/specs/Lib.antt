@@ -1,4 +1,2 @@
-pub mod Operands
-pub mod Temporaries
 pub mod Strings
 pub mod Writing

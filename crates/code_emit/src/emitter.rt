@@ -1,18 +1,18 @@
 // The files of a set of scripts: the fixed parts, and the object of a script, with its members in order.
-#![tactic(auto, using(crate::proofs::Goes::advancing))]
+#![tactic(auto, using(crate::proofs::Goes::going))]
 
-ghost use Rattle.std.specs.Prelude.{◌≡◌, ◌-◌, [], false, IfOk, IfSome, vec_len, map, option_map};
+ghost use Rattle.std.specs.Prelude.{◌≡◌, ◌-◌, false, IfOk, IfSome, vec_len, length, map, option_map};
 ghost use Rattle.std.specs.List.{AllByRecursion};
 ghost use Rattle.pex_values.specs.Bits.{has_variable, has_read, has_write};
 ghost use Rattle.pex_values.specs.Plain.{plain, plain_function, plain_named, plain_property, plain_state, plain_object};
 ghost use Rattle.pex_values.specs.Shape.{IsShapedFlag, IsShapedFunction, IsShapedNamed, IsShapedVariable, IsShapedProperty, IsShapedState, IsShapedObject, IsWellShaped};
-ghost use Rattle.code_emit.specs.Writing.{GoesOn, Advances};
+ghost use Rattle.code_emit.specs.Writing.{GoesOn};
 
-use crate::expressions::constant;
 use crate::faults::{EmitFault, Result};
-use crate::statements::block;
+use crate::functions::function;
+use crate::operands::constant;
 use crate::strings::{Numbered, script_at};
-use crate::writer::{Writer, flag_bits};
+use crate::writer::{DebugName, Writer, flag_bits};
 use core_tree::{
     CoreAccess, CoreFunction, CoreProperty, CoreScript, CoreSet, CoreState, CoreVariable,
 };
@@ -32,15 +32,12 @@ const WRITE: u8 = 2;
 /// The bits of an auto property.
 const AUTO_BITS: u8 = 7;
 
-/// How many expressions and statements may stand inside each other, first operands not counted. Those of an accepted
-/// script are fewer: 64 blocks, and 64 brackets with five operands behind the first in each.
-const MOST_NESTED: u16 = 1_000;
-
 /// The compiled files of a set, one for each script behind the prelude's, in their order.
 ///
 /// Each has one object, whose empty state comes first where the script's does, one debug entry for each function with a
-/// body, the user flags `hidden` 0 and `conditional` 1, and each of its strings once, in order of first use. Its source
-/// is the last part of the file's name, and its times are 0.
+/// body, the user flags `hidden` 0 and `conditional` 1, and each of its strings once, in order of first use: by the
+/// object's parts, each function's debug entry before the function, and then the user flags. Its source is the last part
+/// of the file's name, and its times are 0.
 ///
 /// # Errors
 ///
@@ -81,7 +78,7 @@ fn emit_file(alloc: Global, set: &CoreSet, script: &CoreScript) -> Result<Pex>
 }
 
 fn user_flags(writer: &mut Writer<'_>) -> Result<Vec<(u16, u8)>>
-    ensures flags { IfOk result (λ flags. AllByRecursion (IsShapedFlag writer.new.strings) flags.items) }
+    ensures flags { IfOk result (λ flags. AllByRecursion (IsShapedFlag (length writer.new)) flags.items) }
     ensures goes { GoesOn writer.old writer.new }
 {
     let hidden = writer.string(b"hidden")?;
@@ -102,14 +99,13 @@ fn source_name(alloc: Global, file: &Text) -> Result<Text> {
 
 /// What the file has of the writer's script.
 pub(crate) fn object(writer: &mut Writer<'_>) -> Result<PexObject>
-    requires { writer.old.ahead ≡ [] }
-    ensures object { IfOk result (λ o. IsShapedObject writer.new.strings (plain_object o)) }
-    ensures advances { Advances writer.old writer.new }
+    ensures object { IfOk result (λ o. IsShapedObject (length writer.new) (plain_object o)) }
+    ensures goes { GoesOn writer.old writer.new }
 {
     let script = writer.script();
     let name = writer.string(script.name.as_bytes())?;
     let parent_name: &[u8] = match script.parent {
-        Some(number) => script_at(writer.scripts(), number)?.name.as_bytes(),
+        Some(number) => script_at(&writer.set().scripts, number)?.name.as_bytes(),
         None => b"",
     };
     let parent = writer.string(parent_name)?;
@@ -136,7 +132,7 @@ pub(crate) fn object(writer: &mut Writer<'_>) -> Result<PexObject>
 }
 
 fn variables(writer: &mut Writer<'_>, variables: &[CoreVariable]) -> Result<Vec<PexVariable>>
-    ensures variables { IfOk result (λ found. AllByRecursion (IsShapedVariable writer.new.strings) found.items) }
+    ensures variables { IfOk result (λ found. AllByRecursion (IsShapedVariable (length writer.new)) found.items) }
     ensures goes { GoesOn writer.old writer.new }
 {
     let mut found = Vec::with_capacity(writer.alloc(), variables.len())?;
@@ -147,7 +143,7 @@ fn variables(writer: &mut Writer<'_>, variables: &[CoreVariable]) -> Result<Vec<
 }
 
 fn one_variable(writer: &mut Writer<'_>, variable: &CoreVariable) -> Result<PexVariable>
-    ensures variable { IfOk result (IsShapedVariable writer.new.strings) }
+    ensures variable { IfOk result (IsShapedVariable (length writer.new)) }
     ensures goes { GoesOn writer.old writer.new }
 {
     let name = writer.string(variable.name.as_bytes())?;
@@ -157,14 +153,13 @@ fn one_variable(writer: &mut Writer<'_>, variable: &CoreVariable) -> Result<PexV
         name,
         kind,
         flags: flag_bits(variable.flags),
-        value: value.datum(),
+        value,
     })
 }
 
 fn properties(writer: &mut Writer<'_>, properties: &[CoreProperty]) -> Result<Vec<PexProperty>>
-    requires { writer.old.ahead ≡ [] }
-    ensures properties { IfOk result (λ found. AllByRecursion (IsShapedProperty writer.new.strings) (map plain_property found.items)) }
-    ensures advances { Advances writer.old writer.new }
+    ensures properties { IfOk result (λ found. AllByRecursion (IsShapedProperty (length writer.new)) (map plain_property found.items)) }
+    ensures goes { GoesOn writer.old writer.new }
 {
     let mut found = Vec::with_capacity(writer.alloc(), properties.len())?;
     for property in properties {
@@ -174,16 +169,15 @@ fn properties(writer: &mut Writer<'_>, properties: &[CoreProperty]) -> Result<Ve
 }
 
 fn one_property(writer: &mut Writer<'_>, property: &CoreProperty) -> Result<PexProperty>
-    requires { writer.old.ahead ≡ [] }
-    ensures property { IfOk result (λ p. IsShapedProperty writer.new.strings (plain_property p)) }
-    ensures advances { Advances writer.old writer.new }
+    ensures property { IfOk result (λ p. IsShapedProperty (length writer.new) (plain_property p)) }
+    ensures goes { GoesOn writer.old writer.new }
 {
     let name = writer.string(property.name.as_bytes())?;
     let kind = writer.numbered(Numbered::Type(Some(property.kind)))?;
     let doc = writer.text(&property.doc)?;
     match &property.access {
         CoreAccess::Auto(variable) => {
-            let (_, variable) = writer.variable(*variable)?;
+            let variable = writer.numbered(Numbered::Variable(*variable))?;
             Ok(PexProperty {
                 name,
                 kind,
@@ -232,9 +226,8 @@ fn accessor(
     found: &Option<CoreFunction>,
     kind: u8,
 ) -> Result<Option<PexFunction>>
-    requires { writer.old.ahead ≡ [] }
-    ensures accessor { IfOk result (λ f. IfSome (option_map plain_function f) (IsShapedFunction writer.new.strings)) }
-    ensures advances { Advances writer.old writer.new }
+    ensures accessor { IfOk result (λ f. IfSome (option_map plain_function f) (IsShapedFunction (length writer.new))) }
+    ensures goes { GoesOn writer.old writer.new }
 {
     let Some(found) = found else {
         return Ok(None);
@@ -245,9 +238,8 @@ fn accessor(
 }
 
 fn states(writer: &mut Writer<'_>, states: &[CoreState]) -> Result<Vec<PexState>>
-    requires { writer.old.ahead ≡ [] }
-    ensures states { IfOk result (λ found. AllByRecursion (IsShapedState writer.new.strings) (map plain_state found.items)) }
-    ensures advances { Advances writer.old writer.new }
+    ensures states { IfOk result (λ found. AllByRecursion (IsShapedState (length writer.new)) (map plain_state found.items)) }
+    ensures goes { GoesOn writer.old writer.new }
 {
     let mut found = Vec::with_capacity(writer.alloc(), states.len())?;
     for state in states {
@@ -257,9 +249,8 @@ fn states(writer: &mut Writer<'_>, states: &[CoreState]) -> Result<Vec<PexState>
 }
 
 fn one_state(writer: &mut Writer<'_>, state: &CoreState) -> Result<PexState>
-    requires { writer.old.ahead ≡ [] }
-    ensures state { IfOk result (λ s. IsShapedState writer.new.strings (plain_state s)) }
-    ensures advances { Advances writer.old writer.new }
+    ensures state { IfOk result (λ s. IsShapedState (length writer.new) (plain_state s)) }
+    ensures goes { GoesOn writer.old writer.new }
 {
     let name = writer.string(state.name.as_bytes())?;
     let functions = state_functions(writer, state.name.as_bytes(), &state.functions)?;
@@ -271,9 +262,8 @@ fn state_functions(
     state: &[u8],
     functions: &[CoreFunction],
 ) -> Result<Vec<(u16, PexFunction)>>
-    requires { writer.old.ahead ≡ [] }
-    ensures functions { IfOk result (λ found. AllByRecursion (IsShapedNamed writer.new.strings) (map plain_named found.items)) }
-    ensures advances { Advances writer.old writer.new }
+    ensures functions { IfOk result (λ found. AllByRecursion (IsShapedNamed (length writer.new)) (map plain_named found.items)) }
+    ensures goes { GoesOn writer.old writer.new }
 {
     let mut found = Vec::with_capacity(writer.alloc(), functions.len())?;
     for each in functions {
@@ -286,30 +276,4 @@ fn state_functions(
         found.push((name, function(writer, each, place)?))?;
     }
     Ok(found)
-}
-
-/// Where a function stands: the name of its state, its own name, and what its debug entry has as its kind.
-#[derive(Clone, Copy)]
-pub(crate) struct DebugName<'a> {
-    pub state: &'a [u8],
-    pub name: &'a [u8],
-    pub kind: u8,
-}
-
-/// What the file has of a function. A function with a body gets its debug entry.
-fn function(writer: &mut Writer<'_>, of: &CoreFunction, place: DebugName<'_>) -> Result<PexFunction>
-    requires { writer.old.ahead ≡ [] }
-    ensures function { IfOk result (λ f. IsShapedFunction writer.new.strings (plain_function f)) }
-    ensures advances { Advances writer.old writer.new }
-{
-    writer.begin(of)?;
-    block(writer, &of.body, MOST_NESTED)?;
-    let kind = writer.numbered(Numbered::Type(of.result))?;
-    let doc = writer.text(&of.doc)?;
-    let (written, lines) = writer.end(of, kind, doc)?;
-    if of.is_native {
-        return Ok(written);
-    }
-    writer.note_lines(place, lines)?;
-    Ok(written)
 }

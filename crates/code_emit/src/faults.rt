@@ -1,6 +1,7 @@
 ghost use Rattle.std.specs.Prelude.{◌≡◌};
 ghost use Rattle.code_emit.specs.declared.faults.EmitFault.TheVariants as fault;
 
+use code_lower::LowerFault;
 use papy_base::OutOfMemory;
 use std::alloc::{AllocError, AllocFailed};
 use thiserror::Error;
@@ -11,7 +12,8 @@ pub(crate) type Result<T> = std::result::Result<T, EmitFault>;
 /// Why a set of scripts has no files. No set of accepted scripts is known that meets any but the last.
 #[derive(Clone, Copy, Debug, PartialEq, Eq, Error)]
 pub enum EmitFault {
-    /// A number names no script, function, variable, local or parameter, or a literal is an instance or an array.
+    /// A number names no script, function, variable, local or parameter, a call takes a native function for one with a body
+    /// or the other way round, the result of a call that has none is used, or a literal is an instance or an array.
     #[error("a number names nothing")]
     OutOfRange,
     /// More than 65,535 strings, or in a function more than 65,535 instructions, more than 8,192 parameters and
@@ -45,5 +47,15 @@ impl<T: Drop> From<AllocFailed<T>> for EmitFault {
 
     fn from(_error: AllocFailed<T>) -> EmitFault {
         EmitFault::OutOfMemory
+    }
+}
+
+impl From<LowerFault> for EmitFault {
+    fn from(fault: LowerFault) -> EmitFault {
+        match fault {
+            LowerFault::OutOfRange => EmitFault::OutOfRange,
+            LowerFault::TooLarge => EmitFault::TooLarge,
+            LowerFault::OutOfMemory => EmitFault::OutOfMemory,
+        }
     }
 }

@@ -1,13 +1,13 @@
-//! From the typed trees of scripts to compiled files (PEX 3.1): strings, temporaries, code and debug lines.
+//! From the typed trees of scripts, and the code that stands for them, to compiled files (PEX 3.1).
 //!
 //! The format is that of UESP's page "Skyrim Mod:File Formats/PEX" (Compiled Script File).
 #![tactic(auto)]
 
 mod emitter;
-mod expressions;
 mod faults;
-mod operand;
-mod statements;
+mod functions;
+mod instructions;
+mod operands;
 mod strings;
 mod writer;
 

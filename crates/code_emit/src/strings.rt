@@ -2,6 +2,7 @@
 ghost use Rattle.std.specs.Prelude.{◌≡◌, ◌<◌, ◌≤◌, ◌^◌, [], length, map, IfOk, IfSome, OnOk};
 ghost use Rattle.pex_values.specs.Shape.{IsReference};
 ghost use Rattle.code_emit.specs.Strings.{with_string};
+ghost use Rattle.code_emit.specs.Writing.{GoesOn};
 
 use crate::faults::{EmitFault, Result};
 use core_tree::{CoreScript, CoreSet, CoreType};
@@ -62,7 +63,7 @@ impl StringTable {
     pub(crate) fn place_of(&mut self, string: &[u8]) -> Result<u16>
         ensures added { OnOk result (self.new ≡ with_string self.old string.now) }
         ensures place { IfOk result (IsReference (length self.new)) }
-        ensures grows { length self.old ≤ length self.new }
+        ensures goes { GoesOn self.old self.new }
     {
         if let Some(place) = self.numbers.get_index_of(string) {
             return Ok(place as u16);

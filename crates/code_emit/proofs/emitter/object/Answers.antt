@@ -1,24 +1,25 @@
-use Rattle.std.proofs.Common.{map, arith}
+use Rattle.std.proofs.Common.{length, map, arith}
 use Rattle.code_emit.proofs.Later.{reference_later, variable_later, property_later, all_later}
 use Rattle.pex_values.specs.Shape.{IsShapedVariable, IsShapedProperty}
 use Rattle.pex_values.specs.Plain.{plain_property}
+use Rattle.code_emit.proofs.Goes.{more}
 use Rattle.code_emit.proofs.emitter.object.Goals as goal
 
 pub returns-clause-object : goal.returns-clause-object
 returns-clause-object c =
-    let p1 = c.string.new.self.strings in
-    let p2 = c.string-2.new.self.strings in
-    let p3 = c.text.new.self.strings in
-    let p4 = c.string-3.new.self.strings in
-    let p5 = c.variables.new.writer.strings in
-    let p6 = c.properties.new.writer.strings in
-    let n = c.states.new.writer.strings in
-    let s2 = c.in_ok-parent.ensures.goes.strings in
-    let s3 = c.in_ok-doc.ensures.goes.strings in
-    let s4 = c.in_ok-auto_state.ensures.goes.strings in
-    let s5 = c.in_ok-variables.ensures.goes.strings in
-    let s6 = c.in_ok-properties.ensures.advances.strings in
-    let s7 = c.in_ok-states.ensures.advances.strings in
+    let p1 = length c.string.new.self in
+    let p2 = length c.string-2.new.self in
+    let p3 = length c.text.new.self in
+    let p4 = length c.string-3.new.self in
+    let p5 = length c.variables.new.writer in
+    let p6 = length c.properties.new.writer in
+    let n = length c.states.new.writer in
+    let s2 = more c.in_ok-parent.ensures.goes in
+    let s3 = more c.in_ok-doc.ensures.goes in
+    let s4 = more c.in_ok-auto_state.ensures.goes in
+    let s5 = more c.in_ok-variables.ensures.goes in
+    let s6 = more c.in_ok-properties.ensures.goes in
+    let s7 = more c.in_ok-states.ensures.goes in
     record {
       name = reference_later p1 n (omega arith) c.in_ok-name.name c.in_ok-name.ensures.place;
       parent = reference_later p2 n (omega arith) c.in_ok-parent.parent c.in_ok-parent.ensures.place;

@@ -1,12 +1,14 @@
-use Rattle.std.proofs.Common.{length, sym, subst}
+use Rattle.std.proofs.Common.{ℕ, List, length, map, sym, subst}
+use Rattle.std.specs.List.{AllByRecursion}
+use Rattle.pex_values.specs.declared.debug.PexLines.{PexLines}
 use Rattle.pex_values.specs.Plain.{plain_lines}
 use Rattle.pex_values.specs.Shape.{IsShapedLines}
-use Rattle.code_emit.proofs.Writings.{with_entry}
-use Rattle.code_emit.specs.Writing.{Written}
+use Rattle.code_emit.proofs.Later.{each_grown}
 use Rattle.code_emit.proofs.writer.Writer.add_entry.Goals as goal
 
 pub invariant_of-self-2 : goal.invariant_of-self-2
 invariant_of-self-2 c =
     let i = c.self.inside in
-    let P : Written → Type 0 = λ w. IsShapedLines w.strings (plain_lines c.args.entry) in
-    with_entry (length i.strings) i.count i.code i.debug.items i.variables.items i.free_temporaries.items i.none_variable c.self.invariant c.args.entry c.push.new.self.items (subst P (sym c.self.view_is) c.requires) c.in_ok-push.ensures.items
+    let Is = IsShapedLines (length i.strings) in
+    let shaped = subst (λ (w : List (List ℕ)). IsShapedLines (length w) (plain_lines c.args.entry)) (sym c.self.view_is) c.requires in
+    subst (λ (es : List PexLines). AllByRecursion Is (map plain_lines es)) (sym c.in_ok-push.ensures.items) (each_grown Is Is plain_lines (λ y h. h) i.debug.items c.args.entry c.self.invariant shaped)
