@@ -3,6 +3,8 @@
 ghost use Rattle.std.specs.Prelude.{◌≡◌, OnOk};
 ghost use Rattle.std.specs.Option.{option_copied};
 ghost use Rattle.body_runner.specs.Calls.{reply_result};
+ghost use Rattle.body_runner.specs.Sights.{IsThere};
+ghost use Rattle.body_runner.specs.Steps.{Gives};
 
 use crate::body::{Home, Inner};
 use crate::frame::{Call, CallWay};
@@ -197,7 +199,9 @@ impl Home<'_> {
     }
 
     /// Stores the reply to a call.
-    pub fn give(&self, inner: &mut Inner<'_>, call: &LoadedInstruction, reply: Value) -> Made<()> {
+    pub fn give(&self, inner: &mut Inner<'_>, call: &LoadedInstruction, reply: Value) -> Made<()>
+        ensures { IsThere self.now.instance inner.old.store.now.instances → OnOk result (Gives self.now call.now reply inner.old inner.new) }
+    {
         match reply_result(call) {
             Some(operand) => self.write(inner, operand, reply),
             None => {
