@@ -1,18 +1,17 @@
 -- Arrays of the store in the terms of the definitions.
-use Rattle.std.proofs.Common.{◌≡◌, ℕ, zero, suc, ◌+◌, ◌<◌, ◌≤◌, Bool, true, false, not, cond, List, [], ◌∷◌, ◌++◌, map, length, drop, Option, Some, None, Result, Ok, Err, refl, sym, ap, ◌∙◌, arith}
+use Rattle.std.proofs.Common.{◌≡◌, ℕ, zero, suc, ◌+◌, Bool, true, false, not, cond, List, [], ◌∷◌, length, drop, Option, Some, None, Result, Ok, Err, refl, sym, ap, ◌∙◌, arith}
 use Rattle.std.specs.Prelude.{slice_index_or, slice_set, ℤ, pos, int_lt, nat_lt, position}
 use Rattle.std.specs.Int.RustNames.{unsigned_abs}
 use Rattle.std.specs.List.{position_from}
 use Rattle.std.specs.Option.{option_map}
 use Rattle.std.proofs.lemmas.Iterator.Adapters.{position_from-zero}
-use Rattle.core_tree.specs.declared.core_type.CoreType.TheVariants as kinds
 use Rattle.core_tree.specs.declared.value.Value.{Value}
 use Rattle.core_tree.specs.declared.value.Value.TheVariants as values
 use Rattle.core_tree.specs.Values.{place_number}
 use Rattle.papy_base.specs.declared.faults.StackFault.{StackFault}
 use Rattle.papy_base.specs.declared.faults.StackFault.TheVariants.{IndexRange}
 use Rattle.instance_store.specs.Arrays as stored
-use Rattle.instance_store.specs.Arrays.{ArrayState as Stored, array_at, arrays_with, end_behind, first_equal, first_place, found_place, item_or_fault, last_equal, place_in, read, write_answer}
+use Rattle.instance_store.specs.Arrays.{ArrayState as Stored, array_at, arrays_with, end_behind, first_equal, first_place, item_or_fault, last_equal, place_in, read, write_answer}
 use Rattle.instance_store.specs.Values.{equals}
 use Rattle.script_meaning.specs.Arrays as meant
 use Rattle.script_meaning.specs.Arrays.{element_of, first_from, is_index, items_of, last_below, last_end, with_element, with_items, write_fault}

@@ -1,7 +1,7 @@
 -- Casts in the terms of the definitions.
-use Rattle.std.proofs.Common.{◌≡◌, ℕ, zero, suc, ◌<◌, ◌≤◌, ◌++◌, Bool, true, false, ◌&&◌, cond, ltb, List, [], ◌∷◌, map, length, Option, Some, None, refl, sym, ap, subst, ◌∙◌, arith}
+use Rattle.std.proofs.Common.{◌≡◌, ℕ, zero, suc, ◌<◌, ◌++◌, Bool, true, false, ◌&&◌, cond, List, [], ◌∷◌, map, length, Option, Some, None, refl, sym, ap, ◌∙◌, arith}
 use Rattle.std.specs.Char.{digit_value}
-use Rattle.std.specs.Prelude.{codes, ◌==◌, slice_get, ℤ, pos, negsuc, FitsSigned, int_le, nat_lt, nat_le}
+use Rattle.std.specs.Prelude.{codes, ◌==◌, slice_get, ℤ, pos, negsuc, FitsSigned, int_le, nat_lt}
 use Rattle.std.specs.Bool.{Decides}
 use Rattle.std.specs.Int.{w32}
 use Rattle.std.specs.List.{list_all, list_any}
@@ -15,12 +15,12 @@ use Rattle.core_tree.specs.declared.scene.BoundInstance.{BoundInstance}
 use Rattle.core_tree.specs.declared.scene.Scene.{Scene}
 use Rattle.core_tree.specs.declared.value.Value.{Value}
 use Rattle.core_tree.specs.declared.value.Value.TheVariants as values
-use Rattle.core_tree.specs.Outlines.{ScriptShape, name_in, parents_of, script_shape}
+use Rattle.core_tree.specs.Outlines.{name_in, parents_of, script_shape}
 use Rattle.papy_base.specs.Decimal.{IsInt, int_value, without_minus}
 use Rattle.papy_base.specs.Lineage as objects
 use Rattle.papy_base.specs.Lineage.{parent_of, stands_below}
 use Rattle.script_meaning.specs.Values as meant
-use Rattle.script_meaning.specs.Values.{int_of_text, is_child, is_digit, is_int_text, is_of_script, lineage, parent_in, upward, written}
+use Rattle.script_meaning.specs.Values.{int_of_text, is_child, is_digit, is_int_text, is_of_script, parent_in, upward, written}
 use Rattle.body_runner.specs.Casts.{plain_text, text_of_bound}
 use Rattle.body_runner.specs.Sights.{titles_of}
 

@@ -1,5 +1,5 @@
 -- What a body doesn't see stays.
-use Rattle.std.proofs.Common.{◌≡◌, ℕ, zero, suc, List, [], ◌∷◌, Option, Some, None, refl, sym, ap, subst, ◌∙◌}
+use Rattle.std.proofs.Common.{◌≡◌, ℕ, zero, suc, List, [], ◌∷◌, Option, Some, None, refl, sym, ap, subst}
 use Rattle.std.specs.Prelude.{slice_set}
 use Rattle.core_tree.specs.declared.core_type.CoreType.{CoreType}
 use Rattle.core_tree.specs.declared.value.Value.{Value}

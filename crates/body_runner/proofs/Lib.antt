@@ -2,6 +2,7 @@ pub mod Arrays
 pub mod ArraySteps
 pub mod Casting
 pub mod Kept
+pub mod Leaving
 pub mod Meaning
 pub mod Replies
 pub mod Steps

@@ -30,9 +30,9 @@ use Rattle.body_runner.specs.declared.body.Home.{Home}
 use Rattle.body_runner.specs.declared.body.Inner.{Inner}
 use Rattle.body_runner.specs.Bodies.{home_of, inner_of, printing}
 use Rattle.body_runner.specs.Operands.{own_instance, variable_in, state_in, worth, kind_of, instances_with, slots_with, Keeps, Stores, StoresNothing, StoresTyped}
-use Rattle.body_runner.specs.Settings.{slot_type, variable_type}
+use Rattle.body_runner.specs.Settings.{variable_type}
 use Rattle.body_runner.specs.Sights.{IsThere, Rest, variables_of, arrays_of, sight_of}
-use Rattle.body_runner.specs.Values.{number_in, is_true, text_in, array_in}
+use Rattle.body_runner.specs.Values.{number_in, is_true, text_in, array_in, instance_in}
 
 -- ---- variables by script
 abbrev is_script : ℕ → ScriptValues → Bool
@@ -127,6 +127,14 @@ array_same (values.Bool b) = refl
 array_same (values.Text t) = refl
 array_same (values.Instance n) = refl
 array_same (values.Array n) = refl
+
+pub instance_same : (value : Value) → instance_in value ≡ meant.instance_of value
+instance_same values.NoneValue = refl
+instance_same (values.Int n) = refl
+instance_same (values.Bool b) = refl
+instance_same (values.Text t) = refl
+instance_same (values.Instance n) = refl
+instance_same (values.Array n) = refl
 
 pub truth_same : (value : Value) → is_true value ≡ meant.is_true value
 truth_same values.NoneValue = refl

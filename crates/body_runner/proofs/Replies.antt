@@ -12,11 +12,11 @@ use Rattle.body_runner.specs.declared.body.Home.{Home}
 use Rattle.body_runner.specs.declared.body.Inner.{Inner}
 use Rattle.body_runner.specs.Bodies.{home_of, inner_of}
 use Rattle.body_runner.specs.Calls as calls
-use Rattle.body_runner.specs.Operands.{Stores, StoresNothing}
-use Rattle.body_runner.specs.Sights.{IsThere, Rest}
+use Rattle.body_runner.specs.Operands.{Stores}
+use Rattle.body_runner.specs.Sights.{IsThere}
 use Rattle.body_runner.specs.Steps.{Gives}
 use Rattle.body_runner.proofs.Kept.{same_kept, stored_kept}
-use Rattle.body_runner.proofs.Meaning.{inner_same, stored_meant}
+use Rattle.body_runner.proofs.Meaning.{stored_meant}
 
 result_same : (i : LoadedInstruction) → reply_result (instruction_of i) ≡ option_map operand_of (calls.reply_result i)
 result_same loaded.Nop = refl

@@ -1,23 +1,16 @@
 -- What each instruction does, in the terms of the definitions.
-use Rattle.std.proofs.Common.{◌≡◌, ℕ, ◌+◌, ◌≤◌, Bool, true, false, not, cond, List, [], ◌++◌, map, length, Option, Some, None, Result, Ok, Err, IfOk, OnOk, refl, sym, ap, subst, ◌∙◌, arith}
+use Rattle.std.proofs.Common.{◌≡◌, ℕ, ◌+◌, Bool, true, false, not, cond, List, [], ◌++◌, length, Option, Some, None, Result, Ok, Err, IfOk, OnOk, refl, sym, ap, subst, ◌∙◌, arith}
 use Rattle.std.proofs.lemmas.Bool.Decides.{nat_tests}
 use Rattle.std.specs.Prelude.{ℤ, pos, negsuc, nat_le, ◌+ℤ◌, ◌-ℤ◌, ◌*ℤ◌, neg_ℤ, int_div, int_rem, int_lt, int_le, nat_lt}
 use Rattle.std.specs.Int.{w32, int_wrap}
 use Rattle.std.specs.Ordering.{int_eq}
-use Rattle.core_tree.specs.declared.core_type.CoreType.{CoreType}
-use Rattle.core_tree.specs.declared.operator.Arith.{Arith}
-use Rattle.core_tree.specs.declared.operator.Arith.TheVariants as signs
 use Rattle.core_tree.specs.declared.value.Value.{Value}
 use Rattle.core_tree.specs.declared.value.Value.TheVariants as values
-use Rattle.core_tree.specs.Values.{default_result}
 use Rattle.papy_base.specs.declared.faults.StackFault.{StackFault}
 use Rattle.papy_base.specs.declared.faults.StackFault.TheVariants.{DivideZero, TextTooLong}
 use Rattle.instance_store.specs.Values.{equals}
 use Rattle.script_meaning.specs.Values as meant
-use Rattle.script_meaning.specs.Values.{calculated}
-use Rattle.code_meaning.specs.Code as plain
 use Rattle.code_meaning.specs.Execution.{Step as Meant, cast_where, executed, gives, jumped, next, settled}
-use Rattle.code_meaning.specs.Execution as exec
 use Rattle.code_meaning.specs.Operands as code
 use Rattle.loaded_code.specs.Plain.{instruction_of, operand_of}
 use Rattle.loaded_code.specs.declared.instruction.LoadedInstruction.{LoadedInstruction}
@@ -26,14 +19,14 @@ use Rattle.loaded_code.specs.declared.operand.Operand.{Operand}
 use Rattle.body_runner.specs.declared.body.Home.{Home}
 use Rattle.body_runner.specs.declared.body.Inner.{Inner}
 use Rattle.body_runner.specs.declared.instructions.Step.{Step}
-use Rattle.body_runner.specs.declared.instructions.Step.TheVariants.{Done, Faulted, Jump, Leaves}
+use Rattle.body_runner.specs.declared.instructions.Step.TheVariants.{Done, Jump, Leaves}
 use Rattle.body_runner.specs.Arithmetic.{joined, quotient, remainder}
 use Rattle.body_runner.specs.Bodies.{home_of, inner_of, printing}
 use Rattle.body_runner.specs.Instructions.{number_of, StoresQuotient, StoresText}
-use Rattle.body_runner.specs.Operands.{kind_of, worth, Stores, StoresNothing}
+use Rattle.body_runner.specs.Operands.{kind_of, worth, Stores}
 use Rattle.body_runner.specs.Sights.{IsThere, Rest}
-use Rattle.body_runner.specs.Steps.{answered_of, done_of, jump_of, jump_step, same_truth, step_of, GoesOn, Jumps, StepMeans, Steps}
-use Rattle.body_runner.specs.Values.{is_true, number_in, text_in}
+use Rattle.body_runner.specs.Steps.{answered_of, done_of, jump_of, jump_step, same_truth, step_of, GoesOn, StepMeans, Steps}
+use Rattle.body_runner.specs.Values.{is_true, text_in}
 use Rattle.body_runner.proofs.Arrays.{equal_same}
 use Rattle.body_runner.proofs.Kept.{same_kept, stored_kept}
 use Rattle.body_runner.proofs.Meaning.{noted_same, number_same, stored_meant, text_same, truth_same, type_meant, worth_meant}

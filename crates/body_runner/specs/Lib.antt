@@ -3,6 +3,7 @@ pub mod Bodies
 pub mod Calls
 pub mod Casts
 pub mod Instructions
+pub mod Leaving
 pub mod Lines
 pub mod Operands
 pub mod Settings

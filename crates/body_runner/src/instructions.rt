@@ -220,12 +220,12 @@ impl Home<'_> {
     fn imod(&self, inner: &mut Inner<'_>, to: &Operand, left: &Operand, right: &Operand) -> Answer
         ensures { IfOk result (StoresQuotient self.now inner.old inner.new to.now (remainder (number_of self.now inner.old left.now) (number_of self.now inner.old right.now))) }
     {
-        let left = self.number(inner, left)?;
-        let right = self.number(inner, right)?;
-        if right == 0 {
+        let dividend = self.number(inner, left)?;
+        let divisor = self.number(inner, right)?;
+        if divisor == 0 {
             return self.answer(inner, to, Value::Int(0), Some(StackFault::DivideZero));
         }
-        self.answer(inner, to, Value::Int(remainder(left, right)), None)
+        self.answer(inner, to, Value::Int(remainder(dividend, divisor)), None)
     }
 
     // not
