@@ -1,1 +1,9 @@
+pub mod Arrays
+pub mod ArraySteps
+pub mod Casting
+pub mod Kept
+pub mod Leaving
+pub mod Meaning
+pub mod Replies
+pub mod Steps
 pub mod Texts

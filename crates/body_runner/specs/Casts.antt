@@ -1,6 +1,7 @@
 -- The texts of values, and what casts give.
 use Rattle.std.specs.Prelude.{◌≡◌, ℕ, List, [], ◌∷◌, ◌++◌, Option, Some, None, codes, slice_get, if◌then◌else◌}
 use Rattle.std.specs.Fmt.{signed_decimal}
+use Rattle.core_tree.specs.Outlines.{name_in}
 use Rattle.core_tree.specs.declared.outline.OutlineScript.{OutlineScript}
 use Rattle.core_tree.specs.declared.scene.BoundInstance.{BoundInstance}
 use Rattle.core_tree.specs.declared.scene.Scene.{Scene}
@@ -11,13 +12,9 @@ use Rattle.core_tree.specs.declared.value.Value.TheVariants as values
 abbrev pub named : List ℕ → List ℕ → List ℕ
 named script name = 91 ∷ script ++ codes " <" ++ name ++ codes ">]"
 
-abbrev pub text_in_script : List ℕ → Option OutlineScript → List ℕ
-text_in_script name None = []
-text_in_script name (Some script) = named script.name name
-
 abbrev pub text_of_bound : List OutlineScript → Option BoundInstance → List ℕ
 text_of_bound scripts None = []
-text_of_bound scripts (Some bound) = text_in_script bound.name (slice_get scripts bound.script)
+text_of_bound scripts (Some bound) = named (name_in (slice_get scripts bound.script)) bound.name
 
 -- the text of a value that is no array
 abbrev pub plain_text : List OutlineScript → Scene → Value → List ℕ

@@ -1,9 +1,12 @@
 pub mod Arithmetic
+pub mod Bodies
 pub mod Calls
 pub mod Casts
 pub mod Instructions
+pub mod Leaving
 pub mod Lines
 pub mod Operands
 pub mod Settings
-pub mod Stores
+pub mod Sights
+pub mod Steps
 pub mod Values

@@ -1,5 +1,5 @@
 -- What the operands of a running body are worth, and what a store in one leaves.
-use Rattle.std.specs.Prelude.{◌≡◌, ℕ, List, Option, Some, None, length, nat_lt, slice_index_or, slice_set, if◌then◌else◌}
+use Rattle.std.specs.Prelude.{◌≡◌, ℕ, List, [], Option, Some, None, slice_index_or, slice_set}
 use Rattle.core_tree.specs.declared.core_type.CoreType.{CoreType}
 use Rattle.core_tree.specs.declared.value.Value.{Value}
 use Rattle.core_tree.specs.declared.value.Value.TheVariants as values
@@ -9,6 +9,7 @@ use Rattle.loaded_code.specs.declared.operand.Operand.TheVariants as operands
 use Rattle.body_runner.specs.declared.body.Home.{Home}
 use Rattle.body_runner.specs.declared.body.Inner.{Inner}
 use Rattle.body_runner.specs.Settings.{type_of}
+use Rattle.body_runner.specs.Values.{text_in}
 
 -- ---- values
 abbrev pub own_instance : Option ℕ → Value
@@ -20,9 +21,8 @@ variable_in instances None script number = values.NoneValue
 variable_in instances (Some instance) script number = variable_of (instance_at instances instance) script number
 
 abbrev pub state_in : List InstanceState → Option ℕ → Value
-state_in instances None = values.NoneValue
-state_in instances (Some instance) =
-    if nat_lt instance (length instances) then values.Text (instance_at instances instance).state else values.NoneValue
+state_in instances None = values.Text []
+state_in instances (Some instance) = values.Text (instance_at instances instance).state
 
 -- what an operand is worth
 abbrev pub worth : Home → Inner → Operand → Value
@@ -50,14 +50,10 @@ variable_with instances None script number value = instances
 variable_with instances (Some instance) script number value =
     slice_set instances instance (instance_with (instance_at instances instance) script number value)
 
-abbrev pub text_with : List InstanceState → ℕ → Value → List InstanceState
-text_with instances instance (values.Text state) =
-    slice_set instances instance (record (instance_at instances instance) { state = state })
-text_with instances instance _ = instances
-
 abbrev pub state_with : List InstanceState → Option ℕ → Value → List InstanceState
 state_with instances None value = instances
-state_with instances (Some instance) value = text_with instances instance value
+state_with instances (Some instance) value =
+    slice_set instances instance (record (instance_at instances instance) { state = text_in value })
 
 abbrev pub instances_with : List InstanceState → Option ℕ → ℕ → Operand → Value → List InstanceState
 instances_with instances instance script (operands.Variable number) value =

@@ -3,14 +3,14 @@
 ghost use Rattle.std.specs.Prelude.{◌≡◌, IfOk, OnOk, map};
 ghost use Rattle.core_tree.specs.Values.{default_result};
 ghost use Rattle.body_runner.specs.Operands.{kind_of, state_in, state_with, worth, Keeps, Stores};
-ghost use Rattle.body_runner.specs.Values.{is_true, number_in};
+ghost use Rattle.body_runner.specs.Values.{is_true, number_in, text_in};
 
-use crate::casts::{counts_as_true, number_of};
+use crate::casts::{counts_as_true, number_of, text_in};
 use crate::setting::Setting;
 use crate::store::Store;
 use core_tree::{CoreType, Value};
 use loaded_code::{LoadedFunction, Operand};
-use papy_base::Made;
+use papy_base::{Made, Text};
 use std::alloc::Global;
 
 // As many locals as most functions have. A frame puts its locals behind its arguments, so that it finds memory once.
@@ -72,16 +72,15 @@ impl Home<'_> {
         }
     }
 
+    // Where there is no instance, the text is empty.
     fn read_state(&self, inner: &Inner<'_>) -> Made<Value>
         ensures { IfOk result (λ value. value ≡ state_in inner.now.store.now.instances self.now.instance) }
     {
-        match self.instance {
-            Some(instance) if inner.store.has_instance(instance) => {
-                let state = inner.store.instances.state_of(instance);
-                Ok(Value::Text(state.try_clone(self.turn.alloc)?))
-            }
-            _ => Ok(Value::NoneValue),
-        }
+        let text = match self.instance {
+            Some(instance) => inner.store.state_text(self.turn.alloc, instance)?,
+            None => Text::try_from_bytes(self.turn.alloc, &[])?,
+        };
+        Ok(Value::Text(text))
     }
 
     /// The values of a call's arguments.
@@ -108,6 +107,13 @@ impl Home<'_> {
             },
             other => Ok(number_of(&self.value(inner, other)?)),
         }
+    }
+
+    /// The text that an operand is worth, the empty one where it is no text.
+    pub fn text(&self, inner: &Inner<'_>, operand: &Operand) -> Made<Text>
+        ensures { IfOk result (λ text. text ≡ text_in (worth self.now inner.now operand.now)) }
+    {
+        text_in(self.turn.alloc, self.value(inner, operand)?)
     }
 
     /// Whether what an operand is worth counts as true.
@@ -178,18 +184,15 @@ impl Home<'_> {
         ensures instances { OnOk result (inner.new.store.now.instances ≡ state_with inner.old.store.now.instances self.now.instance value) }
         ensures arrays { inner.new.store.now.arrays ≡ inner.old.store.now.arrays }
     {
+        let Some(instance) = self.instance else {
+            drop(value);
+            return Ok(());
+        };
         let (alloc, setting) = (self.turn.alloc, self.turn.setting);
-        match (self.instance, value) {
-            (Some(instance), Value::Text(state)) => {
-                inner
-                    .store
-                    .set_state(alloc, &setting.loaded, instance, state)
-            }
-            (_, other) => {
-                drop(other);
-                Ok(())
-            }
-        }
+        let state = text_in(alloc, value)?;
+        inner
+            .store
+            .set_state(alloc, &setting.loaded, instance, state)
     }
 
     /// Stores the default of an operand's type in it.

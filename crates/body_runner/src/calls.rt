@@ -1,8 +1,18 @@
 //! Instructions that call or return: what each of them asks for, and where the reply goes.
 
-ghost use Rattle.std.specs.Prelude.{◌≡◌, OnOk};
+ghost use Rattle.std.specs.Prelude.{◌≡◌, ℕ, List, IfOk, IsSome, None, OnOk};
 ghost use Rattle.std.specs.Option.{option_copied};
+ghost use Rattle.std.specs.declared.alloc.Global.{Global};
+ghost use Rattle.std.specs.declared.vec.Vec.{Vec};
+ghost use Rattle.loaded_code.specs.declared.instruction.LoadedInstruction.TheVariants as loaded;
+ghost use Rattle.loaded_code.specs.declared.operand.Operand.{Operand};
 ghost use Rattle.body_runner.specs.Calls.{reply_result};
+ghost use Rattle.body_runner.specs.Leaving.{is_native_in, IsLeaving, IsPlaced, Leaves, MakesOrRefuses, Refuses};
+ghost use Rattle.body_runner.specs.Operands.{worth};
+ghost use Rattle.body_runner.specs.Settings.{method_at};
+ghost use Rattle.body_runner.specs.Sights.{IsThere};
+ghost use Rattle.body_runner.specs.Steps.{Gives};
+ghost use Rattle.body_runner.specs.Values.{instance_in};
 
 use crate::body::{Home, Inner};
 use crate::frame::{Call, CallWay};
@@ -30,7 +40,9 @@ pub enum Event {
 
 impl Home<'_> {
     /// What an instruction that calls or returns asks for. Any other would return None, and is never asked.
-    pub fn leave(&self, inner: &mut Inner<'_>, instruction: &LoadedInstruction) -> Made<Event> {
+    pub fn leave(&self, inner: &mut Inner<'_>, instruction: &LoadedInstruction) -> Made<Event>
+        ensures { IsThere self.now.instance inner.old.store.now.instances → IsLeaving self.now instruction.now → IfOk result (λ event. Leaves self.now instruction.now event inner.old inner.new) }
+    {
         match instruction {
             LoadedInstruction::CallMethod {
                 number,
@@ -75,14 +87,18 @@ impl Home<'_> {
         object: &Operand,
         to: &Operand,
         arguments: &[Operand],
-    ) -> Made<Event> {
-        let target = self.target(inner, object)?;
-        let (Some(instance), Some(name)) = (target, name) else {
+    ) -> Made<Event>
+        ensures { IsThere self.now.instance inner.old.store.now.instances → IsSome name → (text : List ℕ) (more : Vec Operand Global) → more.items ≡ arguments.now → IfOk result (λ event. Leaves self.now (loaded.CallMethod text name object.now to.now more) event inner.old inner.new) }
+    {
+        let Some(name) = name else {
+            return self.refuse(inner, to, StackFault::NoneCall);
+        };
+        let Some(instance) = self.target(inner, object)? else {
             return self.refuse(inner, to, StackFault::NoneCall);
         };
         let arguments = self.arguments(inner, arguments)?;
         let way = CallWay::Method(name);
-        self.call(inner, to, Some(instance), way, arguments)
+        self.call(inner, to, called(Some(instance), way, arguments))
     }
 
     fn call_parent(
@@ -91,7 +107,9 @@ impl Home<'_> {
         name: Option<usize>,
         to: &Operand,
         arguments: &[Operand],
-    ) -> Made<Event> {
+    ) -> Made<Event>
+        ensures { IsThere self.now.instance inner.old.store.now.instances → IsSome name → (text : List ℕ) (more : Vec Operand Global) → more.items ≡ arguments.now → IfOk result (λ event. Leaves self.now (loaded.CallParent text name to.now more) event inner.old inner.new) }
+    {
         let Some(name) = name else {
             return self.refuse(inner, to, StackFault::NoneCall);
         };
@@ -100,7 +118,7 @@ impl Home<'_> {
             script: self.script,
             name,
         };
-        self.call(inner, to, self.instance, way, arguments)
+        self.call(inner, to, called(self.instance, way, arguments))
     }
 
     // A global native needs no frame.
@@ -110,7 +128,9 @@ impl Home<'_> {
         function: Option<MethodPlace>,
         to: &Operand,
         arguments: &[Operand],
-    ) -> Made<Event> {
+    ) -> Made<Event>
+        ensures { IsThere self.now.instance inner.old.store.now.instances → (script : ℕ) (text : List ℕ) (more : Vec Operand Global) → IsPlaced self.now script text function → more.items ≡ arguments.now → IfOk result (λ event. Leaves self.now (loaded.CallStatic script text function to.now more) event inner.old inner.new) }
+    {
         let Some(at) = function else {
             return self.refuse(inner, to, StackFault::NoneCall);
         };
@@ -118,7 +138,7 @@ impl Home<'_> {
         if self.is_native(at) {
             return Ok(Event::Native { at, arguments });
         }
-        self.call(inner, to, None, CallWay::Global(at), arguments)
+        self.call(inner, to, called(None, CallWay::Global(at), arguments))
     }
 
     fn get_property(
@@ -127,13 +147,18 @@ impl Home<'_> {
         name: Option<usize>,
         object: &Operand,
         to: &Operand,
-    ) -> Made<Event> {
-        let target = self.target(inner, object)?;
-        let (Some(instance), Some(name)) = (target, name) else {
+    ) -> Made<Event>
+        ensures { IsThere self.now.instance inner.old.store.now.instances → IsSome name → (text : List ℕ) → IfOk result (λ event. Leaves self.now (loaded.PropGet text name object.now to.now) event inner.old inner.new) }
+    {
+        let Some(name) = name else {
+            return self.refuse(inner, to, StackFault::NoneProperty);
+        };
+        let Some(instance) = self.target(inner, object)? else {
             return self.refuse(inner, to, StackFault::NoneProperty);
         };
         let arguments = Vec::new(self.turn.alloc);
-        self.call(inner, to, Some(instance), CallWay::Get(name), arguments)
+        let way = CallWay::Get(name);
+        self.call(inner, to, called(Some(instance), way, arguments))
     }
 
     // It has no result.
@@ -143,21 +168,29 @@ impl Home<'_> {
         name: Option<usize>,
         object: &Operand,
         value: &Operand,
-    ) -> Made<Event> {
-        let target = self.target(inner, object)?;
-        let (Some(instance), Some(name)) = (target, name) else {
+    ) -> Made<Event>
+        ensures { IsSome name → (text : List ℕ) → IfOk result (λ event. Leaves self.now (loaded.PropSet text name object.now value.now) event inner.now inner.now) }
+    {
+        let Some(name) = name else {
             return Ok(Event::Refused(StackFault::NoneProperty));
         };
-        let arguments = vec![in self.turn.alloc; self.value(inner, value)?]?;
+        let Some(instance) = self.target(inner, object)? else {
+            return Ok(Event::Refused(StackFault::NoneProperty));
+        };
+        let value = self.value(inner, value)?;
         if !self.has_room {
-            drop(arguments);
+            drop(value);
             return Ok(Event::Refused(StackFault::FrameLimit));
         }
-        Ok(called(Some(instance), CallWay::Set(name), arguments))
+        let arguments = vec![in self.turn.alloc; value]?;
+        let way = CallWay::Set(name);
+        Ok(Event::Called(called(Some(instance), way, arguments)))
     }
 
     // The instance that an operand is, none where it is None.
-    fn target(&self, inner: &Inner<'_>, object: &Operand) -> Made<Option<u16>> {
+    fn target(&self, inner: &Inner<'_>, object: &Operand) -> Made<Option<u16>>
+        ensures { IfOk result (λ target. target ≡ instance_in (worth self.now inner.now object.now)) }
+    {
         match self.value(inner, object)? {
             Value::Instance(instance) => Ok(Some(instance)),
             other => {
@@ -167,7 +200,9 @@ impl Home<'_> {
         }
     }
 
-    fn is_native(&self, at: MethodPlace) -> bool {
+    fn is_native(&self, at: MethodPlace) -> bool
+        ensures { result ≡ is_native_in (method_at self.now.turn.now.setting.now.loaded.scripts at) }
+    {
         match self.turn.setting.method(at) {
             Some(function) => function.is_native,
             None => false,
@@ -175,29 +210,28 @@ impl Home<'_> {
     }
 
     // A call that needs a frame, where there is room for it.
-    fn call(
-        &self,
-        inner: &mut Inner<'_>,
-        to: &Operand,
-        instance: Option<u16>,
-        way: CallWay,
-        arguments: Vec<Value>,
-    ) -> Made<Event> {
+    fn call(&self, inner: &mut Inner<'_>, to: &Operand, call: Call) -> Made<Event>
+        ensures { IfOk result (λ event. MakesOrRefuses self.now.has_room self.now inner.old inner.new to.now call event) }
+    {
         if !self.has_room {
-            drop(arguments);
+            drop(call);
             return self.refuse(inner, to, StackFault::FrameLimit);
         }
-        Ok(called(instance, way, arguments))
+        Ok(Event::Called(call))
     }
 
     // A call that isn't made gives the default of its type, and the body goes on.
-    fn refuse(&self, inner: &mut Inner<'_>, to: &Operand, fault: StackFault) -> Made<Event> {
+    fn refuse(&self, inner: &mut Inner<'_>, to: &Operand, fault: StackFault) -> Made<Event>
+        ensures { IfOk result (λ event. Refuses self.now inner.old inner.new to.now fault event) }
+    {
         self.write_default(inner, to)?;
         Ok(Event::Refused(fault))
     }
 
     /// Stores the reply to a call.
-    pub fn give(&self, inner: &mut Inner<'_>, call: &LoadedInstruction, reply: Value) -> Made<()> {
+    pub fn give(&self, inner: &mut Inner<'_>, call: &LoadedInstruction, reply: Value) -> Made<()>
+        ensures { IsThere self.now.instance inner.old.store.now.instances → OnOk result (Gives self.now call.now reply inner.old inner.new) }
+    {
         match reply_result(call) {
             Some(operand) => self.write(inner, operand, reply),
             None => {
@@ -208,13 +242,15 @@ impl Home<'_> {
     }
 }
 
-fn called(instance: Option<u16>, way: CallWay, arguments: Vec<Value>) -> Event {
-    Event::Called(Call {
+fn called(instance: Option<u16>, way: CallWay, arguments: Vec<Value>) -> Call
+    ensures { result ≡ record { instance = instance; way = way; arguments = arguments; kept = None } }
+{
+    Call {
         instance,
         way,
         arguments,
         kept: None,
-    })
+    }
 }
 
 /// The operand that takes the reply of a call, none of what is no call, and of the writing of a property.

@@ -1,6 +1,6 @@
 //! Instructions on values and jumps: what each of them does to the body that runs.
 
-ghost use Rattle.std.specs.Prelude.{◌≡◌, ◌+◌, ◌<◌, ◌≤◌, [], ◌++◌, ◌+ℤ◌, ◌-ℤ◌, ◌*ℤ◌, false, true, IfOk, IfSome, IsTrue, None, OnOk, Some, int_lt, length, neg_ℤ, not};
+ghost use Rattle.std.specs.Prelude.{◌≡◌, ◌<◌, ◌≤◌, ◌≢◌, ◌+ℤ◌, ◌-ℤ◌, ◌*ℤ◌, IfOk, IfSome, IsTrue, OnOk, int_lt, int_rem, neg_ℤ, not, pos};
 ghost use Rattle.std.specs.Int.{int_wrap, w32};
 ghost use Rattle.std.specs.Option.{option_and_then};
 ghost use Rattle.std.specs.Result.{result_err};
@@ -8,11 +8,12 @@ ghost use Rattle.core_tree.specs.declared.value.Value.TheVariants as values;
 ghost use Rattle.core_tree.specs.Values.{element_kind, is_array_type};
 ghost use Rattle.instance_store.specs.Arrays.{arrays_with, found, length_of, read, write_answer};
 ghost use Rattle.instance_store.specs.Values.{equals};
-ghost use Rattle.body_runner.specs.Arithmetic.{quotient, remainder};
-ghost use Rattle.body_runner.specs.Instructions.{number_of, StoresNumber, StoresQuotient, StoresValue};
-ghost use Rattle.body_runner.specs.Operands.{worth, Stores};
-ghost use Rattle.body_runner.specs.Stores.{array_in};
-ghost use Rattle.body_runner.specs.Values.{is_true};
+ghost use Rattle.body_runner.specs.Arithmetic.{joined, quotient, remainder};
+ghost use Rattle.body_runner.specs.Instructions.{number_of, Adds, Creates, StoresNumber, StoresQuotient, StoresText, StoresValue};
+ghost use Rattle.body_runner.specs.Operands.{kind_of, worth, Stores};
+ghost use Rattle.body_runner.specs.Sights.{IsThere};
+ghost use Rattle.body_runner.specs.Steps.{answered_of, done_of, jump_step, same_truth, IsSized, Steps};
+ghost use Rattle.body_runner.specs.Values.{array_in, is_true, text_in};
 
 use crate::body::{Home, Inner};
 use core_tree::{CoreType, Value};
@@ -37,8 +38,10 @@ pub enum Step {
 type Answer = Made<Option<StackFault>>;
 
 impl Home<'_> {
-    /// Runs an instruction, but for one that calls or returns.
-    pub fn step(&self, inner: &mut Inner<'_>, instruction: &LoadedInstruction) -> Made<Step> {
+    /// Runs an instruction, but for one that calls or returns. An array is made of 1 to 128 elements.
+    pub fn step(&self, inner: &mut Inner<'_>, instruction: &LoadedInstruction) -> Made<Step>
+        ensures { IsThere self.now.instance inner.old.store.now.instances → IsSized instruction.now → IfOk result (λ step. Steps self.now instruction.now step inner.old inner.new) }
+    {
         match instruction {
             LoadedInstruction::Nop => Ok(Step::Done),
             LoadedInstruction::IAdd {
@@ -164,8 +167,7 @@ impl Home<'_> {
         wanted: bool,
         landing: u16,
     ) -> Made<Step>
-        ensures jumps { is_true (worth self.now inner.now condition.now) ≡ wanted → IfOk result (λ step. step ≡ Step.Jump landing) }
-        ensures goes_on { is_true (worth self.now inner.now condition.now) ≡ not wanted → IfOk result (λ step. step ≡ Step.Done) }
+        ensures { IfOk result (λ step. step ≡ jump_step (same_truth wanted (is_true (worth self.now inner.now condition.now))) landing) }
     {
         if self.truth(inner, condition)? == wanted {
             return Ok(Step::Jump(landing));
@@ -218,12 +220,12 @@ impl Home<'_> {
     fn imod(&self, inner: &mut Inner<'_>, to: &Operand, left: &Operand, right: &Operand) -> Answer
         ensures { IfOk result (StoresQuotient self.now inner.old inner.new to.now (remainder (number_of self.now inner.old left.now) (number_of self.now inner.old right.now))) }
     {
-        let left = self.number(inner, left)?;
-        let right = self.number(inner, right)?;
-        if right == 0 {
+        let dividend = self.number(inner, left)?;
+        let divisor = self.number(inner, right)?;
+        if divisor == 0 {
             return self.answer(inner, to, Value::Int(0), Some(StackFault::DivideZero));
         }
-        self.answer(inner, to, Value::Int(rem(left, right)), None)
+        self.answer(inner, to, Value::Int(remainder(dividend, divisor)), None)
     }
 
     // not
@@ -321,25 +323,12 @@ impl Home<'_> {
     }
 
     // strcat
-    fn strcat(
-        &self,
-        inner: &mut Inner<'_>,
-        to: &Operand,
-        left: &Operand,
-        right: &Operand,
-    ) -> Answer {
-        let (left, right) = (self.value(inner, left)?, self.value(inner, right)?);
-        match (left, right) {
-            (Value::Text(left), Value::Text(right)) => self.join_texts(inner, to, &left, &right),
-            _ => Ok(None),
-        }
-    }
-
-    fn join_texts(&self, inner: &mut Inner<'_>, to: &Operand, left: &Text, right: &Text) -> Answer
-        ensures joined { length left.now + length right.now ≤ 1024 → IfOk result (λ fault. Stores self.now inner.old inner.new to.now (values.Text (left.now ++ right.now)) × (fault ≡ None)) }
-        ensures too_long { 1024 < length left.now + length right.now → IfOk result (λ fault. Stores self.now inner.old inner.new to.now (values.Text []) × (fault ≡ Some StackFault.TextTooLong)) }
+    fn strcat(&self, inner: &mut Inner<'_>, to: &Operand, left: &Operand, right: &Operand) -> Answer
+        ensures { IfOk result (StoresText self.now inner.old inner.new to.now (joined (text_in (worth self.now inner.old left.now)) (text_in (worth self.now inner.old right.now)))) }
     {
-        match left.try_join(self.turn.alloc, right) {
+        let left = self.text(inner, left)?;
+        let right = self.text(inner, right)?;
+        match left.try_join(self.turn.alloc, &right) {
             Ok(text) => self.answer(inner, to, Value::Text(text), None),
             Err(JoinFault::TooLong) => {
                 let empty = Text::try_from_bytes(self.turn.alloc, &[])?;
@@ -353,25 +342,22 @@ impl Home<'_> {
     // ---- arrays
 
     // array_create: the size stands in the code.
-    fn create_array(&self, inner: &mut Inner<'_>, to: &Operand, size: u8) -> Answer {
+    fn create_array(&self, inner: &mut Inner<'_>, to: &Operand, size: u8) -> Answer
+        ensures { (1 ≤ size) × (size ≤ 128) → IfOk result (Creates self.now inner.old inner.new to.now (option_and_then element_kind (kind_of self.now to.now)) size) }
+    {
         let Some(kind) = element_type(self.type_of(to)) else {
             return Ok(None);
         };
-        let store = &mut *inner.store;
-        match store.arrays.create(kind, size_of_array(size)) {
-            Ok(array) => self.answer(inner, to, Value::Array(array), None),
-            Err(StoreFault::Fault(fault)) => self.answer(inner, to, Value::NoneValue, Some(fault)),
-            Err(StoreFault::OutOfMemory) => Err(OutOfMemory),
-        }
+        let (value, fault) = make_array(inner, kind, size_of_array(size))?;
+        self.answer(inner, to, value, fault)
     }
 
     // array_length
     fn array_length(&self, inner: &mut Inner<'_>, to: &Operand, array: &Operand) -> Answer
-        ensures { let arrays = inner.old.store.now.arrays in IfOk result (StoresNumber self.now inner.old inner.new to.now (length_of arrays (array_in arrays (worth self.now inner.old array.now)))) }
+        ensures { let arrays = inner.old.store.now.arrays in IfOk result (StoresNumber self.now inner.old inner.new to.now (length_of arrays (array_in (worth self.now inner.old array.now)))) }
     {
         let value = self.value(inner, array)?;
-        let store = &*inner.store;
-        let answer = store.arrays.length(store.array_of(&value));
+        let answer = inner.store.length(&value);
         drop(value);
         self.write_number(inner, to, answer)
     }
@@ -384,12 +370,11 @@ impl Home<'_> {
         array: &Operand,
         index: &Operand,
     ) -> Answer
-        ensures { let arrays = inner.old.store.now.arrays in IfOk result (StoresValue self.now inner.old inner.new to.now (read arrays (array_in arrays (worth self.now inner.old array.now)) (number_of self.now inner.old index.now))) }
+        ensures { let arrays = inner.old.store.now.arrays in IfOk result (StoresValue self.now inner.old inner.new to.now (read arrays (array_in (worth self.now inner.old array.now)) (number_of self.now inner.old index.now))) }
     {
         let value = self.value(inner, array)?;
         let at = self.number(inner, index)?;
-        let store = &*inner.store;
-        match store.arrays.get_at(store.array_of(&value), at) {
+        match inner.store.element(&value, at) {
             Ok(value) => self.answer(inner, to, value, None),
             Err(StoreFault::Fault(fault)) => {
                 self.write_default(inner, to)?;
@@ -407,17 +392,15 @@ impl Home<'_> {
         index: &Operand,
         value: &Operand,
     ) -> Answer
-        ensures arrays { let arrays = inner.old.store.now.arrays in OnOk result (inner.new.store.now.arrays ≡ arrays_with arrays (array_in arrays (worth self.now inner.old array.now)) (number_of self.now inner.old index.now) (worth self.now inner.old value.now)) }
-        ensures fault { let arrays = inner.old.store.now.arrays in IfOk result (λ fault. fault ≡ result_err (write_answer arrays (array_in arrays (worth self.now inner.old array.now)) (number_of self.now inner.old index.now))) }
+        ensures arrays { let arrays = inner.old.store.now.arrays in OnOk result (inner.new.store.now.arrays ≡ arrays_with arrays (array_in (worth self.now inner.old array.now)) (number_of self.now inner.old index.now) (worth self.now inner.old value.now)) }
+        ensures fault { let arrays = inner.old.store.now.arrays in IfOk result (λ fault. fault ≡ result_err (write_answer arrays (array_in (worth self.now inner.old array.now)) (number_of self.now inner.old index.now))) }
         ensures instances { inner.new.store.now.instances ≡ inner.old.store.now.instances }
         ensures slots { inner.new.slots.now.items ≡ inner.old.slots.now.items }
     {
         let target = self.value(inner, array)?;
         let at = self.number(inner, index)?;
         let value = self.value(inner, value)?;
-        let store = &mut *inner.store;
-        let array = store.array_of(&target);
-        Ok(store.arrays.set_at(array, at, value).err())
+        Ok(inner.store.set_element(&target, at, value).err())
     }
 
     // array_findelement, array_rfindelement
@@ -430,15 +413,12 @@ impl Home<'_> {
         start: &Operand,
         back: bool,
     ) -> Answer
-        ensures { let arrays = inner.old.store.now.arrays in IfOk result (StoresNumber self.now inner.old inner.new to.now (found arrays (array_in arrays (worth self.now inner.old array.now)) (worth self.now inner.old value.now) (number_of self.now inner.old start.now) back)) }
+        ensures { let arrays = inner.old.store.now.arrays in IfOk result (StoresNumber self.now inner.old inner.new to.now (found arrays (array_in (worth self.now inner.old array.now)) (worth self.now inner.old value.now) (number_of self.now inner.old start.now) back)) }
     {
         let target = self.value(inner, array)?;
         let value = self.value(inner, value)?;
         let start = self.number(inner, start)?;
-        let store = &*inner.store;
-        let answer = store
-            .arrays
-            .find(store.array_of(&target), &value, start, back);
+        let answer = inner.store.find(&target, &value, start, back);
         self.write_number(inner, to, answer)
     }
 
@@ -473,20 +453,44 @@ impl Home<'_> {
     }
 }
 
-#[inline(always)]
-fn done(stored: Made<()>) -> Made<Step>
-    ensures { IfOk result (λ step. step ≡ Step.Done) }
+// Adds an array, and gives it, or None with a fault.
+fn make_array(inner: &mut Inner<'_>, kind: CoreType, size: u8) -> Made<(Value, Option<StackFault>)>
+    requires no_array_type { IsTrue (not (is_array_type kind)) }
+    requires some { 1 ≤ size }
+    requires at_most { size ≤ 128 }
+    ensures { IfOk result (λ made. Adds inner.old inner.new kind size made) }
 {
-    stored?;
-    Ok(Step::Done)
+    inner.store.make_array(kind, size)
 }
 
 #[inline(always)]
-fn answered(answer: Answer) -> Made<Step> {
-    match answer? {
-        Some(fault) => Ok(Step::Faulted(fault)),
-        None => Ok(Step::Done),
+fn done(stored: Made<()>) -> Made<Step>
+    ensures { result ≡ done_of stored }
+{
+    match stored {
+        Ok(()) => Ok(Step::Done),
+        Err(error) => Err(error),
     }
+}
+
+#[inline(always)]
+fn answered(answer: Answer) -> Made<Step>
+    ensures { result ≡ answered_of answer }
+{
+    match answer {
+        Ok(Some(fault)) => Ok(Step::Faulted(fault)),
+        Ok(None) => Ok(Step::Done),
+        Err(error) => Err(error),
+    }
+}
+
+// A remainder never wraps.
+#[inline(always)]
+fn remainder(left: i32, right: i32) -> i32
+    requires { right ≢ pos 0 }
+    ensures { result ≡ int_wrap w32 (int_rem left right) }
+{
+    rem(left, right)
 }
 
 /// The type of the elements of an array type.
@@ -499,6 +503,7 @@ pub fn element_type(kind: Option<CoreType>) -> Option<CoreType>
 
 // The size of an array, from 1 to 128.
 fn size_of_array(size: u8) -> u8
+    ensures same { (1 ≤ size) × (size ≤ 128) → result ≡ size }
     ensures some { 1 ≤ result }
     ensures at_most { result ≤ 128 }
 {

@@ -44,7 +44,8 @@ pub fn trace_line(alloc: Global, stack: u16, text: &Text) -> Made<Vec<u8>>
     Ok(line)
 }
 
-fn script_name(setting: &Setting, script: u16) -> &[u8]
+/// The name of the script of this number, empty where there is none.
+pub fn script_name(setting: &Setting, script: u16) -> &[u8]
     ensures { result.now ≡ name_in (slice_get setting.now.loaded.outline script) }
 {
     match setting.loaded.outline().scripts.get(usize::from(script)) {

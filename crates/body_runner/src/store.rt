@@ -1,12 +1,16 @@
 //! What scripts change beside their frames: variables, state texts and arrays.
 
-ghost use Rattle.std.specs.Prelude.{◌≡◌, ◌↔◌, ◌<◌, [], IfOk, IfSome, IsTrue, OnErr, OnOk, length, slice_set, vec_len};
+ghost use Rattle.std.specs.Prelude.{◌≡◌, ◌↔◌, ◌<◌, ◌≤◌, [], Ok, not, IfErr, IfOk, IsTrue, OnErr, OnOk, length, slice_set, vec_len};
+ghost use Rattle.instance_store.specs.Arrays.{arrays_with, found, length_of, read, write_answer, IsRefusal};
 ghost use Rattle.instance_store.specs.Instances.{instance_at, instance_with, variable_of};
-ghost use Rattle.body_runner.specs.Stores.{array_in};
+ghost use Rattle.core_tree.specs.Values.{is_array_type};
+ghost use Rattle.script_meaning.specs.Arrays.{new_array, with_array};
+ghost use Rattle.body_runner.specs.Sights.{arrays_of};
+ghost use Rattle.body_runner.specs.Values.{array_in};
 
 use core_tree::{CoreType, Scene, Value};
-use instance_store::{Arrays, Instances};
-use papy_base::{Made, Text};
+use instance_store::{Arrays, Instances, StoreFault};
+use papy_base::{Made, OutOfMemory, StackFault, Text};
 use pex_verify::Loaded;
 use std::alloc::Global;
 
@@ -107,15 +111,96 @@ impl Store {
         }
     }
 
-    /// The number of the array that a value is, none where it is None.
-    pub fn array_of(&self, value: &Value) -> Option<u16>
-        ensures number { result ≡ array_in self.now.arrays value.now }
-        ensures within { IfSome result (λ number. number < length self.now.arrays) }
+    /// The text of an instance's state, the empty one where there is no such instance.
+    pub fn state_text(&self, alloc: Global, instance: u16) -> Made<Text>
+        ensures { IfOk result (λ text. text ≡ (instance_at self.now.instances instance).state) }
     {
-        match value {
-            Value::Array(number) if *number < self.arrays.count() => Some(*number),
-            _ => None,
+        if !self.has_instance(instance) {
+            return Text::try_from_bytes(alloc, &[]);
         }
+        self.instances.state_of(instance).try_clone(alloc)
+    }
+
+    /// Adds an array of so many defaults of a type that is no array type, and gives it, or None with a fault where there
+    /// are 4,096 already.
+    pub fn make_array(&mut self, kind: CoreType, count: u8) -> Made<(Value, Option<StackFault>)>
+        requires no_array_type { IsTrue (not (is_array_type kind)) }
+        requires some { 1 ≤ count }
+        requires at_most { count ≤ 128 }
+        ensures made { IfOk result (λ made. made ≡ new_array (arrays_of self.old.arrays)) }
+        ensures arrays { OnOk result (arrays_of self.new.arrays ≡ with_array (arrays_of self.old.arrays) kind count) }
+        ensures instances { self.new.instances ≡ self.old.instances }
+    {
+        match self.arrays.create(kind, count) {
+            Ok(array) => Ok((Value::Array(array), None)),
+            Err(StoreFault::Fault(fault)) => Ok((Value::NoneValue, Some(fault))),
+            Err(StoreFault::OutOfMemory) => Err(OutOfMemory),
+        }
+    }
+
+    // ---- the array that a value is, which has no elements where it isn't there
+
+    /// How many elements it has.
+    pub fn length(&self, array: &Value) -> Result<i32, StackFault>
+        ensures { result ≡ length_of self.now.arrays (array_in array.now) }
+    {
+        let Value::Array(number) = array else {
+            return Err(StackFault::NoneArray);
+        };
+        if *number >= self.arrays.count() {
+            return Ok(0);
+        }
+        self.arrays.length(Some(*number))
+    }
+
+    /// A copy of the element at an index.
+    pub fn element(&self, array: &Value, at: i32) -> Result<Value, StoreFault>
+        ensures item { IfOk result (λ value. read self.now.arrays (array_in array.now) at ≡ Ok value) }
+        ensures fault { IfErr result (λ fault. IsRefusal (read self.now.arrays (array_in array.now) at) fault) }
+    {
+        let Value::Array(number) = array else {
+            return Err(StoreFault::Fault(StackFault::NoneArray));
+        };
+        if *number >= self.arrays.count() {
+            return Err(StoreFault::Fault(StackFault::IndexRange));
+        }
+        self.arrays.get_at(Some(*number), at)
+    }
+
+    /// Writes the element at an index, and no other.
+    pub fn set_element(&mut self, array: &Value, at: i32, value: Value) -> Result<(), StackFault>
+        ensures answer { result ≡ write_answer self.old.arrays (array_in array.now) at }
+        ensures after { self.new.arrays ≡ arrays_with self.old.arrays (array_in array.now) at value }
+        ensures instances { self.new.instances ≡ self.old.instances }
+    {
+        let Value::Array(number) = array else {
+            drop(value);
+            return Err(StackFault::NoneArray);
+        };
+        if *number >= self.arrays.count() {
+            drop(value);
+            return Err(StackFault::IndexRange);
+        }
+        self.arrays.set_at(Some(*number), at, value)
+    }
+
+    /// The place of an element that equals the value, else -1, as [`Arrays::find`] looks for it.
+    pub fn find(
+        &self,
+        array: &Value,
+        value: &Value,
+        start: i32,
+        back: bool,
+    ) -> Result<i32, StackFault>
+        ensures { result ≡ found self.now.arrays (array_in array.now) value.now start back }
+    {
+        let Value::Array(number) = array else {
+            return Err(StackFault::NoneArray);
+        };
+        if *number >= self.arrays.count() {
+            return Ok(-1);
+        }
+        self.arrays.find(Some(*number), value, start, back)
     }
 }
 
