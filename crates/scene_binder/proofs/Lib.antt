@@ -1,5 +1,9 @@
 pub mod BoundLemmas
+pub mod InstanceLemmas
+pub mod JudgeLemmas
 pub mod ListLemmas
 pub mod NameLemmas
 pub mod NativeLemmas
+pub mod StateLemmas
+pub mod ValueLemmas
 pub mod WayLemmas

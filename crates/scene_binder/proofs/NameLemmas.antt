@@ -9,11 +9,12 @@ use Rattle.std.proofs.lemmas.Bool.{cases_lt, cond-true, cond-false, le-ltb, lt-l
 use Rattle.std.proofs.lemmas.List.{length-set, take_more}
 use Rattle.std.proofs.lemmas.List.Folds.{find_at, position_or_len-set}
 use Rattle.std.proofs.lemmas.List.Quantifiers.{position-Some}
-use Rattle.std.proofs.lemmas.Option.{slice_get-get_or, slice_get_past}
+use Rattle.std.proofs.lemmas.Option.{none-some, slice_get-get_or, slice_get_past}
 use Rattle.papy_base.specs.Case.{folded}
 use Rattle.papy_base.specs.Table.{IsPlaceTable, Notes, number_in, place_of}
 use Rattle.papy_base.specs.declared.name_table.NameTable.{NameTable}
 use Rattle.papy_base.proofs.TableLemmas.{IsPlaceTable-push}
+use Rattle.scene_binder.specs.Faults.{is_taken}
 use Rattle.scene_binder.specs.Names.{first_of}
 
 -- the first thing of a name is the one at its place
@@ -55,3 +56,16 @@ pub IsPlaceTable-set : {X : Type 0} (name_of : X → List ℕ) (items : List X) 
 IsPlaceTable-set name_of items n y d table same h = λ bytes.
     let kept = position_or_len-set (λ x. bytes_eq bytes (folded (name_of x))) items n y d (ap (λ name. bytes_eq bytes (folded name)) same) in
     h bytes ∙ sym (rw kept (rw (length-set items n y) refl))
+
+-- a name that has a place is borne by one of the things
+place_is_some : {X : Type 0} (name_of : X → List ℕ) (items : List X) (bytes : List ℕ) (place : Option ℕ) → place_of name_of items bytes ≡ place → is_some place ≡ is_some (option_and_then (slice_get items) place)
+place_is_some name_of items bytes None is = refl
+place_is_some {X} name_of [] bytes (Some k) is = absurd (none-some k is)
+place_is_some {X} name_of (x ∷ xs) bytes (Some k) is =
+    let inside = (position-Some (λ (x : X). bytes_eq bytes (folded (name_of x))) (x ∷ xs) k x is).0 in
+    sym (ap is_some (slice_get-get_or (x ∷ xs) k x inside))
+
+pub is_taken-same : {X : Type 0} (name_of : X → List ℕ) (items : List X) (table : NameTable) (name : List ℕ) → IsPlaceTable name_of items table → is_some (number_in table (folded name)) ≡ is_taken name_of items name
+is_taken-same name_of items table name h =
+    let bytes = folded name in
+    ap is_some (h bytes) ∙ (place_is_some name_of items bytes (place_of name_of items bytes) refl ∙ sym (ap is_some (first_of-place name_of items bytes)))

@@ -114,15 +114,15 @@ option_map-or f None other = refl
 option_map-or f (Some x) other = refl
 
 -- what entries say of a name, with one entry more
-binding_in-push : (entries : List (List ℕ × Binding)) (entry : List ℕ × Binding) (bytes : List ℕ) → binding_in (entries ++ entry ∷ []) bytes ≡ option_or (binding_in entries bytes) (binding_in (entry ∷ []) bytes)
+pub binding_in-push : (entries : List (List ℕ × Binding)) (entry : List ℕ × Binding) (bytes : List ℕ) → binding_in (entries ++ entry ∷ []) bytes ≡ option_or (binding_in entries bytes) (binding_in (entry ∷ []) bytes)
 binding_in-push entries entry bytes =
     let test = λ (e : List ℕ × Binding). bytes_eq bytes (folded (entry_name e)) in
     ap (option_map (λ (e : List ℕ × Binding). e.1)) (find-push test entries entry) ∙ option_map-or (λ (e : List ℕ × Binding). e.1) (find test entries) (find test (entry ∷ []))
 
-binding_in-this : (entry : List ℕ × Binding) (bytes : List ℕ) → bytes_eq bytes (folded (entry_name entry)) ≡ true → binding_in (entry ∷ []) bytes ≡ Some entry.1
+pub binding_in-this : (entry : List ℕ × Binding) (bytes : List ℕ) → bytes_eq bytes (folded (entry_name entry)) ≡ true → binding_in (entry ∷ []) bytes ≡ Some entry.1
 binding_in-this entry bytes e = ap (option_map (λ x. x.1)) (cond-true (bytes_eq bytes (folded (entry_name entry))) (Some entry) None e)
 
-binding_in-other : (entry : List ℕ × Binding) (bytes : List ℕ) → bytes_eq bytes (folded (entry_name entry)) ≡ false → binding_in (entry ∷ []) bytes ≡ None
+pub binding_in-other : (entry : List ℕ × Binding) (bytes : List ℕ) → bytes_eq bytes (folded (entry_name entry)) ≡ false → binding_in (entry ∷ []) bytes ≡ None
 binding_in-other entry bytes e = ap (option_map (λ x. x.1)) (cond-false (bytes_eq bytes (folded (entry_name entry))) (Some entry) None e)
 
 -- an item of a list of which one was replaced

@@ -1,4 +1,5 @@
 pub mod Bound
+pub mod Faults
 pub mod Instances
 pub mod Kept
 pub mod Limits
@@ -6,5 +7,6 @@ pub mod Meant
 pub mod Members
 pub mod Names
 pub mod NativeList
+pub mod NativeState
 pub mod Natives
 pub mod Scope

@@ -1,7 +1,8 @@
 -- What is said of a part of a scene while its instances are known by a table alone: it holds of each list that has the table.
-use Rattle.std.specs.Prelude.{ℕ, List}
+use Rattle.std.specs.Prelude.{ℕ, List, Option, option_and_then, slice_get}
 use Rattle.std.specs.List.{AllZip}
-use Rattle.papy_base.specs.Table.{IsPlaceTable}
+use Rattle.papy_base.specs.Case.{folded}
+use Rattle.papy_base.specs.Table.{IsPlaceTable, number_in}
 use Rattle.core_tree.specs.declared.outline.OutlineScript.{OutlineScript}
 use Rattle.core_tree.specs.declared.scene.BoundCall.{BoundCall}
 use Rattle.core_tree.specs.declared.scene.BoundInstance.{BoundInstance}
@@ -11,12 +12,20 @@ use Rattle.core_tree.specs.declared.scene_tree.SceneValue.{SceneValue}
 use Rattle.core_tree.specs.declared.scene_tree.SceneValue.TheVariants as written
 use Rattle.core_tree.specs.declared.value.Value.{Value}
 use Rattle.scene_binder.specs.declared.binder.NamedInstances.{NamedInstances}
+use Rattle.scene_binder.specs.Faults.{is_number, kept_if}
 use Rattle.scene_binder.specs.Instances.{tree_name}
 use Rattle.scene_binder.specs.Meant.{IsCallMeant, IsEntryMeant, IsValueMeant}
 
 -- these are the instances that the table names
 abbrev pub AreNamed : NamedInstances → List SceneInstance → Type 0
 AreNamed known instances = IsPlaceTable tree_name instances known.names
+
+-- the number of the instance that the table has for a name, and its script
+abbrev pub known_number : NamedInstances → List ℕ → Option ℕ
+known_number known name = kept_if is_number (number_in known.names (folded name))
+
+abbrev pub known_script : NamedInstances → List ℕ → Option ℕ
+known_script known name = option_and_then (slice_get known.scripts.items) (known_number known name)
 
 abbrev pub ValueIs : NamedInstances → SceneValue → Value → Type 0
 ValueIs known value bound = (instances : List SceneInstance) → AreNamed known instances → IsValueMeant instances value bound

@@ -1,10 +1,11 @@
 // The scripts of an outline and their members, by name.
-ghost use Rattle.std.specs.Prelude.{IfOk, IfSome, IsTrue, Some, option_copied, ◌≡◌};
+ghost use Rattle.std.specs.Prelude.{IfOk, IfSome, IsTrue, Some, is_none, option_copied, option_map, ◌≡◌};
 ghost use Rattle.std.specs.List.{Contains};
 ghost use Rattle.papy_base.specs.Case.{SameIgnoringCase, folded};
-ghost use Rattle.papy_base.specs.Lineage.{StandsAbove};
+ghost use Rattle.papy_base.specs.Lineage.{StandsAbove, lineage, stands_below};
 ghost use Rattle.papy_base.specs.Table.{IsPlaceTable};
 ghost use Rattle.core_tree.specs.Outlines.{parents_of};
+ghost use Rattle.scene_binder.specs.Faults.{IsJudgedBy, broken, first_own, function_for, instantiable};
 ghost use Rattle.scene_binder.specs.Instances.{IsInstantiable};
 ghost use Rattle.scene_binder.specs.Members.{HasFunction, HasFunctionNamed, HasProperty, IsNearestProperty, own_function, own_property, script_named};
 ghost use Rattle.scene_binder.specs.Names.{first_of, function_name, property_name};
@@ -100,6 +101,7 @@ impl<'a> OutlineScripts<'a> {
     pub(crate) fn find_instantiable(&self, alloc: Global, name: &[u8]) -> Result<u16, SceneFault>
         ensures there { IfOk result (IsInstantiable self.now) }
         ensures named { IfOk result (λ n. script_named self.now name.now ≡ Some n) }
+        ensures judged { IsJudgedBy (broken SceneRule.NoScript (is_none (instantiable self.now name.now))) result }
     {
         let name = Name::from_bytes(alloc, name)?;
         match self.numbers.find(&name) {
@@ -119,6 +121,7 @@ impl<'a> OutlineScripts<'a> {
     ) -> Made<Option<(usize, &'a OutlineProperty)>>
         ensures there { IfOk result (λ found. IfSome found (λ f. StandsAbove (parents_of self.now) first f.0 × HasProperty self.now f.0 f.1.now)) }
         ensures nearest { IfOk result (λ found. IfSome found (λ f. IsNearestProperty self.now name.now first f.0 f.1.now)) }
+        ensures first { IfOk result (λ found. option_map (λ f. (f.0, f.1.now)) found ≡ first_own (own_property self.now (folded name.now)) (lineage (parents_of self.now) (Some first))) }
     {
         let name = Name::from_bytes(alloc, name)?;
         for script in upward(self.scripts, usize::from(first)) {
@@ -143,7 +146,8 @@ impl<'a> OutlineScripts<'a> {
         first: u16,
         name: &[u8],
     ) -> Made<Option<&'a OutlineFunction>>
-        ensures { IfOk result (λ found. IfSome found (λ f. HasFunctionNamed self.now first name.now f.now)) }
+        ensures named { IfOk result (λ found. IfSome found (λ f. HasFunctionNamed self.now first name.now f.now)) }
+        ensures first { IfOk result (λ found. option_copied found ≡ function_for self.now (Some first) name.now) }
     {
         let name = Name::from_bytes(alloc, name)?;
         for script in upward(self.scripts, usize::from(first)) {
@@ -164,7 +168,8 @@ impl<'a> OutlineScripts<'a> {
 
     /// Whether the second script is the first one or stands above it.
     pub(crate) fn is_child(&self, child: u16, parent: u16) -> bool
-        ensures { IsTrue result → StandsAbove (parents_of self.now) child parent }
+        ensures above { IsTrue result → StandsAbove (parents_of self.now) child parent }
+        ensures same { result ≡ stands_below (parents_of self.now) child parent }
     {
         is_below(self.scripts, usize::from(child), usize::from(parent))
     }

@@ -14,7 +14,7 @@ returns-clause-bound c =
     let function = c.in_ok-function.function.now in
     record {
       function = function;
-      callable = subst (λ name. IsCallableOn scripts instances c.in-Some.instance name function) (sym c.in_ok-from_bytes.ensures) c.in_ok-function.ensures;
+      callable = subst (λ name. IsCallableOn scripts instances c.in-Some.instance name function) (sym c.in_ok-from_bytes.ensures) c.in_ok-function.ensures.callable;
       arguments = subst (λ kinds. AreOfTypes scripts instances kinds c.in_ok-arguments.arguments.items) c.deref.ensures.value c.in_ok-arguments.ensures.typed;
     }
 
@@ -28,7 +28,7 @@ returns-clause-limits c = λ h. record {
 pub returns-clause-meant : goal.returns-clause-meant
 returns-clause-meant c = λ instances named.
     let bytes = folded c.args.call.now.instance in
-    let found = subst (λ o. IfSome o (λ n. number_in c.args.self.instances.now.names bytes ≡ Some n)) c.in-Some.is c.in_ok-instance.ensures in
+    let found = subst (λ o. IfSome o (λ n. number_in c.args.self.instances.now.names bytes ≡ Some n)) c.in-Some.is c.in_ok-instance.ensures.named in
     record {
       instance = sym (named bytes) ∙ found;
       arguments = subst (λ written. AllZip (IsValueMeant instances) written c.in_ok-arguments.arguments.items) c.deref-2.ensures.value (c.in_ok-arguments.ensures.meant instances named);
