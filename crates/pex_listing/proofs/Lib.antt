@@ -5,3 +5,8 @@ pub mod Whole
 pub mod Writing
 pub mod StringLemmas
 pub mod Shown
+pub mod Cuts
+pub mod OneField
+pub mod OneLine
+pub mod OnePart
+pub mod OneValue

@@ -4,6 +4,7 @@
 mod assembling;
 mod faults;
 mod fields;
+mod laws;
 mod listing;
 mod objects;
 mod room;
@@ -12,4 +13,5 @@ mod strings;
 
 pub use assembling::assemble;
 pub use faults::{ListingFault, ListingRule, ShowFault};
+pub use laws::one_value;
 pub use showing::show;
