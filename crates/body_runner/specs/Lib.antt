@@ -2,6 +2,7 @@ pub mod Arithmetic
 pub mod Bodies
 pub mod Calls
 pub mod Casts
+pub mod Frames
 pub mod Instructions
 pub mod Leaving
 pub mod Lines
