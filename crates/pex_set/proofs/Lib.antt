@@ -5,3 +5,4 @@ pub mod Stretches
 pub mod Sweeps
 pub mod Members
 pub mod NearestLemmas
+pub mod Made

@@ -4,3 +4,4 @@ pub mod Names
 pub mod Objects
 pub mod Nearest
 pub mod Plain
+pub mod Rows
