@@ -45,3 +45,4 @@ pub mod Sizes
 pub mod Named
 pub mod Coding
 pub mod WholeCode
+pub mod OutlinesMeant

@@ -11,18 +11,18 @@ use Rattle.pex_verify.specs.Loading.{IsLoadedSet}
 use Rattle.pex_verify.specs.Naming.{NameScripts}
 use Rattle.pex_verify.specs.Sets.{AreSoundScripts, JudgedSet}
 use Rattle.pex_verify.specs.Sources.{HaveParts, IsNamed}
-use Rattle.pex_verify.specs.Whole.{IsJudgedSet}
+use Rattle.pex_verify.specs.Whole.{IsPrelude, IsJudgedSet}
 use Rattle.pex_verify.proofs.Relatives.{scripts_named}
 use Rattle.pex_verify.proofs.Whole.{judged_as}
 
 pub named_given : {E : Type 0} (result : Result Tables E) (names : List (List ℕ)) (members : DefaultMembers) (sources : List SetFile) (prelude : Pex) (files : List Pex)
-    → map (λ source. source.pex.now) sources ≡ prelude ∷ files
+    → map (λ source. source.pex.now) sources ≡ prelude ∷ files → IsPrelude members prelude
     → OnOk result (number_in names [] ≡ Some empty_name) → All (IsNamed names) sources → IsNamed names members.source.now → All (λ source. HaveParts source.pex.now) sources
     → IfOk result (λ t. IsLoadedSet members sources t.parts.scripts.items t.parts.outlines.items t.members)
     → All IsFile files → IfOk result (λ t. AreSoundScripts (vec_len t.parts.scripts) t.parts.outlines.items t.parts.scripts.items) → IfOk result (λ t. AreNumbered (placed_objects sources) t.objects)
     → IfOk result (λ t. NameScripts names t.objects t.parts.outlines.items)
-named_given (Ok t) names members sources prelude files files_are empty named own parts loaded valid sound numbered =
+named_given (Ok t) names members sources prelude files files_are is_prelude empty named own parts loaded valid sound numbered =
     let set : JudgedSet = record { outline = t.parts.outlines.items; files = files; scripts = t.parts.scripts.items } in
-    let whole : IsJudgedSet set = record { sound = record { files = valid; scripts = subst (λ (n : ℕ). AreSoundScripts n t.parts.outlines.items t.parts.scripts.items) t.parts.scripts.ok.0 sound }; judged = judged_as names members sources prelude files files_are empty named own parts t loaded } in
+    let whole : IsJudgedSet set = record { sound = record { files = valid; scripts = subst (λ (n : ℕ). AreSoundScripts n t.parts.outlines.items t.parts.scripts.items) t.parts.scripts.ok.0 sound }; judged = judged_as names members sources prelude files files_are is_prelude empty named own parts t loaded } in
     scripts_named whole t.objects numbered
-named_given (Err e) names members sources prelude files files_are empty named own parts loaded valid sound numbered = tt
+named_given (Err e) names members sources prelude files files_are is_prelude empty named own parts loaded valid sound numbered = tt

@@ -134,7 +134,7 @@ variable_by types numbers number kind (Some v) (Some p) same is means =
     cc
 
 -- the variable of an auto property has the property's type in the outline
-variable_is : (types : Meanings) (numbers : List ℕ) (number : ℕ) (kind : CoreType) (outlined : List OutlineVariable) (written : List PexVariable) (place : ℕ)
+pub variable_is : (types : Meanings) (numbers : List ℕ) (number : ℕ) (kind : CoreType) (outlined : List OutlineVariable) (written : List PexVariable) (place : ℕ)
     → map variable_type outlined ≡ map (type_of_variable types numbers) written
     → option_map (λ (v : PexVariable). number_at numbers v.kind) (slice_get written place) ≡ Some number
     → Of kind ≡ value_meaning types number → slice_get (map (λ (v : OutlineVariable). v.kind) outlined) place ≡ Some kind

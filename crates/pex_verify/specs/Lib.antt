@@ -33,3 +33,4 @@ pub mod Members
 pub mod Tables
 pub mod Loading
 pub mod Whole
+pub mod AsMeant

@@ -22,7 +22,7 @@ use Rattle.pex_verify.specs.Sites.{site_of}
 use Rattle.pex_verify.specs.States.{AreStates, states_written}
 use Rattle.pex_verify.specs.Tables.{IsTable}
 use Rattle.pex_verify.specs.Types.{IsValueTypeAmong}
-use Rattle.pex_verify.specs.Variables.{variable_type, type_of_variable}
+use Rattle.pex_verify.specs.Variables.{variable_type, type_of_variable, AreVariables}
 
 -- what is loaded for the properties of an object
 abbrev pub AreProperties : Home → List JudgedProperty → Type 0
@@ -61,10 +61,11 @@ pub record IsObjectOf (judged : Judged) (here : ℕ) (placed : Placed) (script :
   pub object : home.object.now ≡ placed.object
   pub loaded : IsScriptOf home script outline
 
--- the same, with the types of the script's variables
+-- the same, with the types, the names and the initial values of the script's variables
 pub record IsWholeObject (judged : Judged) (here : ℕ) (placed : Placed) (script : JudgedScript) (outline : OutlineScript) : Type 0 where
   pub object : IsObjectOf judged here placed script outline
   pub variables : map variable_type outline.variables.items ≡ map (type_of_variable judged.set.types placed.source.names.now) placed.object.variables.items
+  pub initial : AreVariables placed.source placed.object.variables.items outline.variables.items
 
 -- the scripts and outlines that are loaded for these objects, in order
 pub record AreObjects (judged : Judged) (objects : List Placed) (scripts : List JudgedScript) (outlines : List OutlineScript) : Type 0 where

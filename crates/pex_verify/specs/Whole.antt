@@ -2,7 +2,9 @@
 use Rattle.std.specs.Prelude.{◌≡◌, ℕ, List, [], ◌∷◌, length, map, Some, All}
 use Rattle.core_tree.specs.declared.outline.OutlineScript.{OutlineScript}
 use Rattle.pex_set.specs.Names.{empty_name, number_in}
+use Rattle.pex_meaning.specs.Prelude as meant
 use Rattle.pex_values.specs.declared.values.Pex.{Pex}
+use Rattle.pex_values.specs.Plain.{plain, plain_named}
 use Rattle.pex_verify.specs.declared.judged.JudgedScript.{JudgedScript}
 use Rattle.pex_verify.specs.declared.members.MemberTable.{MemberTable}
 use Rattle.pex_verify.specs.declared.sources.DefaultMembers.{DefaultMembers}
@@ -14,6 +16,12 @@ use Rattle.pex_verify.specs.Plain.{outline_of, scripts_of}
 use Rattle.pex_verify.specs.Sets.{JudgedSet, LoadedSet, IsSoundSet}
 use Rattle.pex_verify.specs.Sources.{HaveParts, IsNamed}
 
+-- what stands before the files is the prelude of the meaning of files, with the members that each script without parent has
+pub record IsPrelude (members : DefaultMembers) (first : Pex) : Type 0 where
+  pub file : plain first ≡ meant.prelude
+  pub list : map plain_named members.list.now ≡ meant.members
+  pub source : members.source.now.pex.now ≡ first
+
 -- the files, with the numbers of their strings in one table of names, and what is loaded for their objects
 pub record IsJudged (files : List Pex) (scripts : List JudgedScript) (outlines : List OutlineScript) : Type 0 where
   pub names : List (List ℕ)
@@ -21,6 +29,7 @@ pub record IsJudged (files : List Pex) (scripts : List JudgedScript) (outlines :
   pub sources : List SetFile
   pub table : MemberTable
   pub prelude : Pex
+  pub is_prelude : IsPrelude members prelude
   pub files_are : map (λ source. source.pex.now) sources ≡ prelude ∷ files
   pub empty : number_in names [] ≡ Some empty_name
   pub named : All (IsNamed names) sources

@@ -16,6 +16,7 @@ mod loaded;
 mod members;
 mod object;
 mod operand_rules;
+mod outlines_meant;
 mod outlining;
 mod scope;
 mod scripts;
@@ -30,5 +31,6 @@ pub use loaded_code::{
     LoadedFunction, LoadedInstruction, LoadedProperty, LoadedScript, MethodPlace, Operand,
     PropertyPlace,
 };
+pub use outlines_meant::verified_outlines_are_as_meant;
 pub use typed_sets::verified_sets_are_typed;
 pub use verifier::verify;

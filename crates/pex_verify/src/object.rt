@@ -13,7 +13,9 @@ ghost use Rattle.pex_verify.specs.Matching.{Written, IsWritten, AreWritten};
 ghost use Rattle.std.specs.HashMap.{get};
 ghost use Rattle.std.specs.List.{list_any};
 ghost use Rattle.pex_verify.specs.States.{is_empty_state, own_written, written_member, member_in, lacking_written, WrittenState, state_written, state_functions, added_state, states_written, IsState, AreStates};
-ghost use Rattle.pex_verify.specs.Variables.{variable_type, type_of_variable};
+ghost use Rattle.pex_verify.specs.Variables.{variable_type, type_of_variable, initial_value, AreVariables};
+ghost use Rattle.pex_values.specs.declared.values.PexVariable.{PexVariable};
+ghost use Rattle.run_laws.specs.Fits.{Known, HasType};
 
 use crate::accessors::load_property;
 use crate::fault::{Judged, Valid, VerifyRule, check, refused};
@@ -134,6 +136,7 @@ fn load_variables(
 ) -> Valid<()>
     ensures typed { OnOk result (AreTyped (vec_len loader.now.set.now.heads) variables.new.list.items) }
     ensures kinds { OnOk result (map variable_type variables.new.list.items ≡ map (type_of_variable loader.now.set.now.types source.now.names.now) object.now.variables.items) }
+    ensures initial { OnOk result (AreVariables source.now object.now.variables.items variables.new.list.items) }
 {
     variables.clear();
     for variable in &object.variables {
@@ -154,6 +157,8 @@ fn load_variable(
 ) -> Judged<()>
     ensures typed { AreTyped (vec_len loader.now.set.now.heads) variables.old.list.items → OnOk result (AreTyped (vec_len loader.now.set.now.heads) variables.new.list.items) }
     ensures kinds { OnOk result (map variable_type variables.new.list.items ≡ map variable_type variables.old.list.items ++ type_of_variable loader.now.set.now.types source.now.names.now variable.now ∷ []) }
+    ensures initial { (before : List PexVariable) → AreVariables source.now before variables.old.list.items
+        → OnOk result (AreVariables source.now (before ++ variable.now ∷ []) variables.new.list.items) }
 {
     let name = source.names.number(variable.name);
     let declared = loader.set.value_type(source.names.number(variable.kind));
@@ -175,7 +180,10 @@ fn load_variable(
 }
 
 // The value at the start: V7 where it isn't of the type, and V12 where a text is too long.
-fn start_value(alloc: Global, source: &SetFile<'_>, kind: CoreType, datum: Datum) -> Judged<Value> {
+fn start_value(alloc: Global, source: &SetFile<'_>, kind: CoreType, datum: Datum) -> Judged<Value>
+    ensures value { IfOk result (λ value. value ≡ initial_value source.now.pex.now.strings.items kind datum) }
+    ensures fits { IfOk result (λ value. (known : Known) → HasType known kind value) }
+{
     match (kind, datum) {
         (_, Datum::NoneValue) => Ok(Value::default_of(alloc, Some(kind))?),
         (CoreType::Int, Datum::Int(number)) => Ok(Value::Int(number)),

@@ -1,7 +1,9 @@
 // The outline of a script.
-ghost use Rattle.std.specs.Prelude.{◌≡◌, map, vec_len, All, IfOk};
+ghost use Rattle.std.specs.Prelude.{◌≡◌, ◌++◌, map, option_to_list, vec_len, All, IfOk, OnOk};
+ghost use Rattle.std.specs.List.{filter_map};
 ghost use Rattle.core_tree.specs.Outlines.{function_shape};
-ghost use Rattle.pex_verify.specs.Outlining.{loaded_shape, functions_without_state, IsOutlineOf};
+ghost use Rattle.pex_verify.specs.Signatures.{title_at};
+ghost use Rattle.pex_verify.specs.Outlining.{loaded_shape, functions_without_state, unless_empty, auto_property, IsOutlineOf};
 ghost use Rattle.pex_verify.specs.Places.{bounds_of};
 ghost use Rattle.pex_verify.specs.Types.{IsTypeAmong};
 ghost use Rattle.pex_verify.specs.Soundness.{IsSoundFunction, AreSoundFunctions, IsSoundProperty, IsSoundScript, AreTyped, IsOutlineProperty, IsOutlineFunction, IsSoundOutline};
@@ -32,11 +34,14 @@ pub(crate) fn outline_script(home: &Home<'_>, script: &JudgedScript) -> Made<Out
     })
 }
 
-fn name_unless_empty(alloc: Global, source: &SetFile<'_>, reference: u16) -> Made<Option<Name>> {
-    if source.text(reference).is_empty() {
+fn name_unless_empty(alloc: Global, source: &SetFile<'_>, reference: u16) -> Made<Option<Name>>
+    ensures { IfOk result (λ name. name ≡ unless_empty (title_at source.now.titles.now reference)) }
+{
+    let name = source.title(alloc, reference)?;
+    if name.as_bytes().is_empty() {
         return Ok(None);
     }
-    Ok(Some(source.title(alloc, reference)?))
+    Ok(Some(name))
 }
 
 fn outline_variables(home: &Home<'_>) -> Made<Vec<OutlineVariable>>
@@ -60,20 +65,40 @@ fn outline_variables(home: &Home<'_>) -> Made<Vec<OutlineVariable>>
 
 fn outline_properties(home: &Home<'_>, properties: &[JudgedProperty]) -> Made<Vec<OutlineProperty>>
     requires { All (IsSoundProperty (bounds_of home.now)) properties.now }
-    ensures { IfOk result (λ found. All (IsOutlineProperty (bounds_of home.now)) found.items) }
+    ensures sound { IfOk result (λ found. All (IsOutlineProperty (bounds_of home.now)) found.items) }
+    ensures properties { IfOk result (λ found. found.items ≡ filter_map auto_property properties.now) }
 {
-    let alloc = home.alloc;
-    let mut found = Vec::new(alloc);
+    let mut found = Vec::new(home.alloc);
     for property in properties {
-        if let Some(variable) = property.variable {
-            found.push(OutlineProperty {
-                name: property.name.try_clone(alloc)?,
-                kind: property.kind,
-                variable,
-            })?;
-        }
+        add_where_some(&mut found, outline_property(home, property)?)?;
     }
     Ok(found)
+}
+
+// The property, where it is an Auto property.
+fn outline_property(home: &Home<'_>, property: &JudgedProperty) -> Made<Option<OutlineProperty>>
+    ensures { IfOk result (λ outline. outline ≡ auto_property property.now) }
+{
+    match property.variable {
+        Some(variable) => Ok(Some(OutlineProperty {
+            name: property.name.try_clone(home.alloc)?,
+            kind: property.kind,
+            variable,
+        })),
+        None => Ok(None),
+    }
+}
+
+fn add_where_some(found: &mut Vec<OutlineProperty>, property: Option<OutlineProperty>) -> Made<()>
+    ensures { OnOk result (found.new.items ≡ found.old.items ++ option_to_list property) }
+{
+    match property {
+        Some(property) => {
+            found.push(property)?;
+            Ok(())
+        }
+        None => Ok(()),
+    }
 }
 
 // The functions of the state without name.

@@ -25,7 +25,9 @@ pub(crate) struct SetFile<'a> {
 }
 
 impl<'a> SetFile<'a> {
-    pub(crate) fn text(&self, reference: u16) -> &'a [u8] {
+    pub(crate) fn text(&self, reference: u16) -> &'a [u8]
+        ensures { result.now ≡ title_at self.now.pex.now.strings.items reference }
+    {
         text_at(self.pex.strings.as_slice(), reference)
     }
 

@@ -1,5 +1,7 @@
 // Sets of files, in the order in which their rules are judged.
 ghost use Rattle.std.specs.Prelude.{◌≡◌, ◌+◌, ◌<◌, ℕ, List, [], ◌∷◌, ◌++◌, map, Some, length, vec_len, All, IfOk, OnOk, false, None};
+ghost use Rattle.pex_meaning.specs.Prelude as meant;
+ghost use Rattle.pex_values.specs.Plain.{plain, plain_named};
 ghost use Rattle.pex_verify.specs.Files.{IsFile};
 ghost use Rattle.pex_verify.specs.Sources.{object_count, script_count};
 ghost use Rattle.pex_verify.specs.Sets.{AreSoundScripts};
@@ -134,6 +136,8 @@ fn load_behind(
 ) -> Valid<Tables>
     requires few { length files.now < 65536 }
     requires valid { All IsFile files.now }
+    requires file { plain prelude.now.file ≡ meant.prelude }
+    requires members { map plain_named prelude.now.members.items ≡ meant.members }
     requires prelude { vec_len prelude.now.file.objects ≡ 6 }
     requires plain { All HasNoProperties prelude.now.file.objects.items }
     ensures count { IfOk result (λ tables. vec_len tables.parts.scripts ≡ script_count files.now) }

@@ -1,11 +1,11 @@
-use Rattle.std.proofs.Common.{◌≡◌, ℕ, List, ◌∷◌, map, All, sym, subst}
+use Rattle.std.proofs.Common.{◌≡◌, ℕ, List, ◌∷◌, map, All, refl, sym, subst}
 use Rattle.pex_values.specs.declared.values.Pex.{Pex}
 use Rattle.pex_verify.specs.declared.sources.FileStrings.{FileStrings}
 use Rattle.pex_verify.specs.declared.sources.SetFile.{SetFile}
 use Rattle.pex_verify.specs.Sources.{AreStrings, AreNamed, HaveParts, IsNamed}
 use Rattle.pex_verify.proofs.Named.{named_given}
 use Rattle.pex_verify.proofs.Parts.{plain_parts, files_parts}
-use Rattle.pex_verify.proofs.Whole.{source_named, judged_given}
+use Rattle.pex_verify.proofs.Whole.{source_named, stands_first, judged_given}
 use Rattle.pex_verify.proofs.verifier.load_behind.Goals as goal
 
 pub returns-clause-judged : goal.returns-clause-judged
@@ -27,7 +27,7 @@ returns-clause-judged c =
     let own_parts : HaveParts first.pex.now = subst (λ (p : Pex). HaveParts p) (sym from.pex) (plain_parts prelude c.requires.plain) in
     let parts : All (λ (s : SetFile). HaveParts s.pex.now) sources = subst (λ (l : List SetFile). All (λ (s : SetFile). HaveParts s.pex.now) l) (sym is) (made.parts own_parts (files_parts files c.requires.valid)) in
     let files_are = subst (λ (l : List SetFile). map (λ (s : SetFile). s.pex.now) l ≡ first.pex.now ∷ files) (sym is) made.files in
-    judged_given c.load_set.result names _ sources first.pex.now files files_are c.load_set.ensures.empty named own_named parts c.load_set.ensures.loaded
+    judged_given c.load_set.result names _ sources first.pex.now files files_are (stands_first _ _ _ _ from.pex c.as_slice-3.ensures.value refl c.requires.file c.requires.members) c.load_set.ensures.empty named own_named parts c.load_set.ensures.loaded
 
 pub returns-clause-named : goal.returns-clause-named
 returns-clause-named c =
@@ -48,4 +48,4 @@ returns-clause-named c =
     let own_parts : HaveParts first.pex.now = subst (λ (p : Pex). HaveParts p) (sym from.pex) (plain_parts prelude c.requires.plain) in
     let parts : All (λ (s : SetFile). HaveParts s.pex.now) sources = subst (λ (l : List SetFile). All (λ (s : SetFile). HaveParts s.pex.now) l) (sym is) (made.parts own_parts (files_parts files c.requires.valid)) in
     let files_are = subst (λ (l : List SetFile). map (λ (s : SetFile). s.pex.now) l ≡ first.pex.now ∷ files) (sym is) made.files in
-    named_given c.load_set.result names _ sources first.pex.now files files_are c.load_set.ensures.empty named own_named parts c.load_set.ensures.loaded c.requires.valid c.load_set.ensures.sound c.load_set.ensures.numbered
+    named_given c.load_set.result names _ sources first.pex.now files files_are (stands_first _ _ _ _ from.pex c.as_slice-3.ensures.value refl c.requires.file c.requires.members) c.load_set.ensures.empty named own_named parts c.load_set.ensures.loaded c.requires.valid c.load_set.ensures.sound c.load_set.ensures.numbered
