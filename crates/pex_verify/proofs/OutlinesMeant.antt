@@ -113,9 +113,10 @@ variables_meant scripts o loaded titles are =
     by [] (v ∷ vs) count each = absurd (omega arith)
     by (l ∷ ls) [] count each = absurd (omega arith)
     by (l ∷ ls) (v ∷ vs) count each =
-        let is : IsVariable o.source v l = each 0 l v (omega arith) in
-        (record { name = is.name ∙ ap (λ (t : List (List ℕ)). title_at t v.name) titles; value = is.value ∙ values_same (home_at scripts o) l.kind v.value },
-          by ls vs (omega arith) (λ n a b h. each (suc n) a b (omega arith)))
+        let is : IsVariable o.source v l = each 0 l v (omega arith) in (
+          record { name = is.name ∙ ap (λ (t : List (List ℕ)). title_at t v.name) titles; value = is.value ∙ values_same (home_at scripts o) l.kind v.value },
+          by ls vs (omega arith) (λ n a b h. each (suc n) a b (omega arith)),
+        )
 
 -- ---- properties
 property_ready : (home : Home) (outlined : List OutlineVariable) (place : ℕ) (property : PexProperty) (loaded : JudgedProperty)
@@ -170,8 +171,8 @@ script_meant scripts judged here o loaded outlined titles parent whole =
     let is = whole.object in
     let title : (reference : PexObject → ℕ) → title_at is.home.source.now.titles.now (reference is.home.object.now) ≡ string (home_at scripts o) (reference o.object) =
     λ reference. ap (λ (f : SetFile). title_at f.titles.now (reference is.home.object.now)) is.source
-        ∙ ap (λ (b : PexObject). title_at o.source.titles.now (reference b)) is.object
-        ∙ ap (λ (t : List (List ℕ)). title_at t (reference o.object)) titles in
+    ∙ ap (λ (b : PexObject). title_at o.source.titles.now (reference b)) is.object
+    ∙ ap (λ (t : List (List ℕ)). title_at t (reference o.object)) titles in
     record {
       name = is.loaded.shape.name ∙ title (λ object. object.name);
       parent = parent;
