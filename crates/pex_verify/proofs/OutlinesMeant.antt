@@ -5,7 +5,7 @@ use Rattle.std.specs.List.{AllByRecursion, AllZip, filter_map, flat_map}
 use Rattle.std.specs.Option.{option_and_then, option_map}
 use Rattle.std.proofs.lemmas.Bool.{eq-eqb, eqb-false, eqb-true}
 use Rattle.std.proofs.lemmas.List.{get_or-map, length-map, map-append}
-use Rattle.std.proofs.lemmas.Option.{slice_get-get_or, slice_get-map}
+use Rattle.std.proofs.lemmas.Option.{same_Some, slice_get-get_or, slice_get-map}
 use Rattle.std.proofs.lemmas.Simd.{map-map}
 use Rattle.core_tree.specs.declared.core_type.CoreType.{CoreType}
 use Rattle.core_tree.specs.declared.outline.OutlineProperty.{OutlineProperty}
@@ -26,6 +26,7 @@ use Rattle.pex_values.specs.Plain.{PlainPex, plain, plain_object}
 use Rattle.pex_set.specs.Names.{empty_name, number_in}
 use Rattle.pex_set.specs.Objects.{first_named, parent_in as parent_of_head}
 use Rattle.pex_set.specs.declared.objects.Head.{Head}
+use Rattle.pex_set.proofs.Positions.{falsely}
 use Rattle.script_meaning.specs.Values.{parent_in}
 use Rattle.pex_verify.specs.declared.judged.JudgedProperty.{JudgedProperty}
 use Rattle.pex_verify.specs.declared.judged.JudgedScript.{JudgedScript}
@@ -203,11 +204,18 @@ same_either_way a b = by (a == b) refl
     by true e = sym (eq-eqb b a (sym (eqb-true a b e)))
     by false e = sym (falsely (b == a) (λ h. eqb-false a b e (sym (eqb-true b a h))))
 
+no_bytes : (byte : ℕ) (bytes : List ℕ) → length (byte ∷ bytes) ≡ 0 → ⊥
+no_bytes byte bytes e = absurd (omega arith)
+
+not_empty : (byte : ℕ) (bytes : List ℕ) → (length (byte ∷ bytes) == 0) ≡ false
+not_empty byte bytes =
+    falsely (length (byte ∷ bytes) == 0) (λ h. no_bytes byte bytes (eqb-true (length (byte ∷ bytes)) 0 h))
+
 -- a text is the empty name where it has its number
 empty_by_number : (names : List (List ℕ)) (name : List ℕ) (number : ℕ) → number_in names [] ≡ Some empty_name → number_in names name ≡ Some number → (number == empty_name) ≡ (length name == 0)
 empty_by_number names [] number empty named = eq-eqb number empty_name (same_Some number empty_name (sym named ∙ empty))
 empty_by_number names (byte ∷ bytes) number empty named =
-    sym (same_test names (byte ∷ bytes) [] number empty_name named empty)
+    sym (same_test names (byte ∷ bytes) [] number empty_name named empty) ∙ sym (not_empty byte bytes)
 
 -- ---- a set
 module _ {set : JudgedSet} (whole : IsJudgedSet set) where
