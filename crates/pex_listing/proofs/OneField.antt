@@ -149,7 +149,7 @@ quoted_same t u r s e =
 
 -- ---- references
 
-found : (xs : List (List ℕ)) (b : List ℕ) (p : ℕ) → p < length xs → get_or xs p [] ≡ b → is_some (first_place xs b) ≡ true
+pub found : (xs : List (List ℕ)) (b : List ℕ) (p : ℕ) → p < length xs → get_or xs p [] ≡ b → is_some (first_place xs b) ≡ true
 found xs b p inside is =
     let test = λ (s : List ℕ). bytes_eq b s in
     ⊎_elim
