@@ -1,18 +1,17 @@
 -- Fields in their one spelling break no rule.
-use Rattle.std.proofs.Common.{◌≡◌, ℕ, zero, suc, ℤ, pos, negsuc, neg_ℤ, ◌+◌, ◌*◌, ◌<◌, ◌≤◌, ◌^◌, ◌/◌, ◌%◌, ◌==◌, ◌&&◌, ◌||◌, not, cond, Bool, true, false, List, [], ◌∷◌, ◌++◌, length, get_or, take, drop, Option, Some, None, is_some, refl, sym, subst, ap, ◌∙◌, append_assoc, ⊎_elim, length-take, arith}
-use Rattle.std.specs.Prelude.{nat_lt, nat_le, slice_index_or, FitsSigned}
-use Rattle.std.specs.Char.{is_ascii_digit, is_ascii_uppercase, is_digit, digit_value}
+use Rattle.std.proofs.Common.{◌≡◌, ℕ, suc, ℤ, pos, negsuc, neg_ℤ, ◌+◌, ◌*◌, ◌<◌, ◌≤◌, ◌^◌, ◌/◌, ◌%◌, ◌==◌, ◌&&◌, not, Bool, true, false, List, [], ◌∷◌, ◌++◌, length, get_or, take, Some, None, is_some, refl, sym, ap, ◌∙◌, append_assoc, ⊎_elim, length-take, arith}
+use Rattle.std.specs.Prelude.{nat_le, slice_index_or, FitsSigned}
+use Rattle.std.specs.Char.{is_ascii_uppercase, is_digit, digit_value}
 use Rattle.std.specs.Fmt.{decimal, signed_decimal, digit_glyph}
 use Rattle.std.specs.Int.{w32}
 use Rattle.std.specs.List.{flat_map, list_all, AllByRecursion}
 use Rattle.std.specs.Str.{bytes_eq}
-use Rattle.std.specs.Str.Parse.{digits_value}
 use Rattle.std.specs.Cmp.Lexicographic.{bytes_decides}
 use Rattle.std.proofs.lemmas.Bool.{agree_below_at, and_from, and_right, and_parts, both_ways, cases_Bool, cond-true, cond-false, eqb-true, le-leb, lt-ltb, not-true}
 use Rattle.std.proofs.lemmas.Fmt.{decimal_nonempty, digits_decimal, digits_value-decimal}
 use Rattle.papy_base.proofs.DigitLemmas.{digit_numerals}
 use Rattle.pex_values.specs.Shape.{IsReference}
-use Rattle.pex_listing.specs.Breaks.{digits_rule, AtByte, AtEscape, AtHigh, AtLow, Quoting, front, integer_by, integer_rule, named_by, number_by, number_rule, placed_by, reference_rule, string_in, unless_spelled, unquoted, with_byte, written}
+use Rattle.pex_listing.specs.Breaks.{digits_rule, AtByte, AtHigh, integer_by, integer_rule, named_by, number_by, number_rule, placed_by, reference_rule, string_in, unless_spelled, unquoted, with_byte, written}
 use Rattle.pex_listing.specs.Lines.{eight_digits, escaped, first_place, is_own_word, is_word, quoted, reference, two_digits}
 use Rattle.pex_values.specs.Spelling.{four_bytes}
 use Rattle.std.specs.List.{position_or_len}
