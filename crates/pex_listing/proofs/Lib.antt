@@ -10,3 +10,4 @@ pub mod OneField
 pub mod OneLine
 pub mod OnePart
 pub mod OneValue
+pub mod Unbroken

@@ -2,8 +2,8 @@
 use Rattle.std.proofs.lemmas.List.{get_or-take}
 use Rattle.std.specs.List.{position_or_len}
 use Rattle.std.proofs.lemmas.List.Sums.{fails_before_first}
-use Rattle.std.proofs.Common.{◌≡◌, ℕ, zero, suc, ℤ, pos, negsuc, ◌+◌, ◌<◌, ◌≤◌, ◌^◌, ◌/◌, ◌%◌, ◌==◌, ◌&&◌, ◌||◌, not, cond, Bool, true, false, List, [], ◌∷◌, ◌++◌, length, get_or, take, Option, Some, None, is_some, refl, sym, subst, ap, ◌∙◌, append_assoc, ⊎_elim, length-take, arith, rules}
-use Rattle.std.specs.Prelude.{codes, nat_lt, nat_le, slice_index_or, FitsSigned}
+use Rattle.std.proofs.Common.{◌≡◌, ℕ, suc, ℤ, pos, negsuc, ◌+◌, ◌<◌, ◌^◌, ◌/◌, ◌%◌, ◌==◌, ◌&&◌, Bool, true, false, List, [], ◌∷◌, ◌++◌, length, get_or, take, Some, None, is_some, refl, sym, ap, ◌∙◌, append_assoc, ⊎_elim, length-take, arith}
+use Rattle.std.specs.Prelude.{nat_lt, nat_le, slice_index_or, FitsSigned}
 use Rattle.std.specs.Char.{is_ascii_digit}
 use Rattle.std.specs.Fmt.{decimal, signed_decimal, digit_glyph}
 use Rattle.std.specs.Int.{w32}
@@ -11,12 +11,12 @@ use Rattle.std.specs.Int.Signed.{mag}
 use Rattle.std.specs.List.{flat_map, list_all}
 use Rattle.std.specs.Str.{bytes_eq}
 use Rattle.std.specs.Cmp.Lexicographic.{bytes_decides}
-use Rattle.std.proofs.lemmas.Bool.{and_parts, both_ways, cases_Bool, cases_order, cond-true, cond-false, eqb-true, eqb-false, false≢true, ltb-true, ltb-false, not-true}
+use Rattle.std.proofs.lemmas.Bool.{and_parts, both_ways, cases_Bool, cases_order, cond-true, cond-false, eqb-true, eqb-false, ltb-false, not-true}
 use Rattle.std.proofs.lemmas.Bool.Decides.{nat_tests}
 use Rattle.std.proofs.lemmas.Fmt.{decimal_injective, signed_decimal_injective, digits_decimal}
 use Rattle.papy_base.proofs.DigitLemmas.{digit_numerals}
 use Rattle.pex_values.specs.Shape.{IsReference}
-use Rattle.pex_listing.specs.Lines.{two_digits, escaped, quoted, is_word_byte, is_word, first_place, is_own_word, spelled_at, reference, field, number}
+use Rattle.pex_listing.specs.Lines.{two_digits, escaped, quoted, is_word_byte, first_place, is_own_word, reference}
 use Rattle.pex_listing.proofs.Cuts.{Same, cut, is_behind, is_token, token_of, byte, past}
 
 -- ---- numbers
@@ -149,7 +149,7 @@ quoted_same t u r s e =
 
 -- ---- references
 
-found : (xs : List (List ℕ)) (b : List ℕ) (p : ℕ) → p < length xs → get_or xs p [] ≡ b → is_some (first_place xs b) ≡ true
+pub found : (xs : List (List ℕ)) (b : List ℕ) (p : ℕ) → p < length xs → get_or xs p [] ≡ b → is_some (first_place xs b) ≡ true
 found xs b p inside is =
     let test = λ (s : List ℕ). bytes_eq b s in
     ⊎_elim

@@ -1,10 +1,10 @@
 -- The first word of a text, and that lines are read in one way.
-use Rattle.std.proofs.Common.{◌≡◌, ℕ, zero, suc, ◌+◌, ◌<◌, ◌≤◌, ◌^◌, ◌==◌, not, cond, Bool, true, false, List, [], ◌∷◌, ◌++◌, length, Option, Some, None, is_some, refl, sym, subst, ap, ◌∙◌, append_assoc, append-nil, ⊎_elim, arith}
-use Rattle.std.specs.Prelude.{codes, IfSome, ◌⊎◌, FitsSigned}
+use Rattle.std.proofs.Common.{◌≡◌, ℕ, ◌<◌, ◌≤◌, ◌^◌, ◌==◌, cond, Bool, true, false, List, [], ◌∷◌, ◌++◌, length, Option, Some, None, refl, sym, subst, ap, ◌∙◌, append_assoc, ⊎_elim, arith}
+use Rattle.std.specs.Prelude.{codes}
 use Rattle.std.specs.Int.{w32, byte_at, from_be_bytes}
 use Rattle.std.specs.List.{flat_map, AllByRecursion, position_or_len}
 use Rattle.std.specs.Str.{bytes_eq}
-use Rattle.std.proofs.lemmas.Bool.{agree_below_at, and_parts, both_ways, cases_lt, cond-false, eqb-true, eqb-false, not-true}
+use Rattle.std.proofs.lemmas.Bool.{agree_below_at, and_parts, cases_lt, eqb-true, eqb-false, not-true}
 use Rattle.std.proofs.lemmas.Nat.{from_be_bytes-to_be_bytes_4}
 use Rattle.std.proofs.lemmas.Option.{slice_get_past}
 use Rattle.pex_values.specs.declared.values.Datum.{Datum}
@@ -13,7 +13,7 @@ use Rattle.pex_values.specs.Opcodes.{operand_table, operands_of}
 use Rattle.pex_values.specs.Plain.{PlainInstruction}
 use Rattle.pex_values.specs.Shape.{AgreesWith, ArePair, IsReference, IsShapedDatum, IsShapedInstruction}
 use Rattle.pex_values.specs.Spelling.{four_bytes}
-use Rattle.pex_listing.specs.Lines.{eight_digits, line_end, number, reference}
+use Rattle.pex_listing.specs.Lines.{eight_digits, reference}
 use Rattle.pex_listing.specs.Listing.{datum, instruction, name, opcode_name, opcode_names, pair}
 use Rattle.pex_listing.proofs.Cuts.{Same, byte, cut, ends_field, front, is_behind, is_token, past, same_front}
 use Rattle.pex_listing.proofs.OneField.{digits_same, number_same, reference_same, signed_same}

@@ -1,18 +1,18 @@
 -- The members of a value are read in one way.
-use Rattle.std.proofs.Common.{inl, inr, ◌≡◌, ℕ, ◌+◌, ◌<◌, ◌≤◌, ◌^◌, Bool, true, List, [], ◌∷◌, ◌++◌, length, Option, Some, None, is_some, refl, sym, subst, ap, ◌∙◌, append_assoc, append-nil, ⊎_elim, arith}
-use Rattle.std.specs.Prelude.{codes, IfSome, ◌⊎◌}
+use Rattle.std.proofs.Common.{◌≡◌, ℕ, ◌<◌, ◌≤◌, ◌^◌, true, List, [], ◌∷◌, ◌++◌, length, Option, Some, None, is_some, refl, sym, subst, ap, ◌∙◌, append_assoc, arith}
+use Rattle.std.specs.Prelude.{codes, IfSome}
 use Rattle.std.specs.List.{flat_map, AllByRecursion}
 use Rattle.std.proofs.lemmas.Bool.{both_ways, eqb-false}
 use Rattle.pex_values.specs.declared.values.PexVariable.{PexVariable}
 use Rattle.pex_values.specs.declared.values.SizeForm.{SizeForm}
 use Rattle.pex_values.specs.declared.values.SizeForm.TheVariants.{Counted, Bare}
 use Rattle.pex_values.specs.Bits as bits_of
-use Rattle.pex_values.specs.Plain.{PlainFunction, PlainState, PlainProperty, PlainObject, PlainLines, PlainDebug, PlainPex}
-use Rattle.pex_values.specs.Shape.{ArePair, IsReference, IsShapedInstruction, IsShapedFunction, IsShapedNamed, IsShapedState, IsShapedVariable, IsShapedProperty, IsShapedObject, IsShapedLines, IsShapedDebug, IsShapedFlag, IsWellShaped}
-use Rattle.pex_listing.specs.Lines.{header_lines, first_line, line_end, number, quoted, reference, string_line, table_lines}
+use Rattle.pex_values.specs.Plain.{PlainFunction, PlainState, PlainProperty, PlainObject, PlainLines, PlainDebug}
+use Rattle.pex_values.specs.Shape.{ArePair, IsReference, IsShapedInstruction, IsShapedFunction, IsShapedNamed, IsShapedState, IsShapedVariable, IsShapedProperty, IsShapedObject, IsShapedLines, IsShapedDebug, IsShapedFlag}
+use Rattle.pex_listing.specs.Lines.{number, reference}
 use Rattle.pex_listing.specs.Listing as form
 use Rattle.pex_listing.proofs.Cuts.{Same, byte, front, is_behind, past, same_front}
-use Rattle.pex_listing.proofs.OneField.{number_same, quoted_same}
+use Rattle.pex_listing.proofs.OneField.{number_same}
 use Rattle.pex_listing.proofs.OneLine.{rank, each_keeps, each_same, name_same, datum_behind, datum_same, instruction_rank, instruction_same, pair_same}
 
 number_field : (m n : ℕ) (r s : List ℕ) → m < 2 ^ 64 → n < 2 ^ 64 → is_behind r ≡ true → is_behind s ≡ true → number m ++ r ≡ number n ++ s → Same m n r s

@@ -3,7 +3,7 @@ use Rattle.std.proofs.Common.{◌≡◌, ℕ, zero, suc, ℤ, pos, neg_ℤ, ◌<
 use Rattle.std.specs.Prelude.{IsTrue}
 use Rattle.std.specs.Fmt.{decimal, signed_decimal}
 use Rattle.std.specs.List.{flat_map}
-use Rattle.std.proofs.lemmas.Bool.{and_parts, not-true, cond-false, ltb-true, false≢true}
+use Rattle.std.proofs.lemmas.Bool.{and_parts, not-true, ltb-true, false≢true}
 use Rattle.papy_base.specs.Digits.{decimal_number, has_leading_zero}
 use Rattle.papy_base.proofs.DigitLemmas.{canonical_digits}
 use Rattle.pex_listing.specs.Lines.{two_digits}

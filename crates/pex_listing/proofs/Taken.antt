@@ -4,7 +4,7 @@ use Rattle.std.specs.List.{flat_map}
 use Rattle.std.proofs.lemmas.List.{flat_map_more}
 use Rattle.pex_listing.specs.declared.listing.Listing.{Listing}
 use Rattle.pex_listing.specs.Lines.{field}
-use Rattle.pex_listing.specs.Opened.{fields_left, behind, text_left, Good, Cuts, Notes, Spends, Takes, Gives, Begun, Ends, TakesLines}
+use Rattle.pex_listing.specs.Opened.{fields_left, behind, text_left, Cuts, Notes, Spends, Takes, Begun, Ends, TakesLines}
 
 -- ---- fields
 

@@ -1,5 +1,5 @@
 -- The parts of a listing, one after another.
-use Rattle.std.proofs.Common.{◌≡◌, ℕ, ◌+◌, List, [], ◌++◌, refl, ap, ◌∙◌, append-nil}
+use Rattle.std.proofs.Common.{◌≡◌, ℕ, List, [], ◌++◌, refl, ap, ◌∙◌, append-nil}
 use Rattle.std.specs.Prelude.{Option, codes, option_map, map}
 use Rattle.std.specs.List.{flat_map}
 use Rattle.pex_values.specs.declared.values.Pex.{Pex}

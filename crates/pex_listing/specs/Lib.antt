@@ -6,3 +6,4 @@ pub mod Spelled
 pub mod Opened
 pub mod Showing
 pub mod Reading
+pub mod Breaks

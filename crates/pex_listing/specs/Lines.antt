@@ -4,7 +4,6 @@ use Rattle.std.specs.Char.{is_ascii_alphanumeric}
 use Rattle.std.specs.List.{flat_map, list_all, position}
 use Rattle.std.specs.Fmt.{decimal, digit_glyph}
 use Rattle.std.specs.Str.{bytes_eq}
-use Rattle.pex_values.specs.Plain.{PlainPex}
 use Rattle.pex_values.specs.Spelling.{four_bytes}
 
 -- two lower-case hexadecimal digits

@@ -1,5 +1,5 @@
 -- What is left of a listing while its lines are read, and what reading a part of it takes.
-use Rattle.std.specs.Prelude.{◌≡◌, ℕ, ◌+◌, Bool, true, List, [], ◌∷◌, ◌++◌, Option, Some, None, unwrap_or, option_map}
+use Rattle.std.specs.Prelude.{◌≡◌, ℕ, ◌+◌, Bool, true, List, [], ◌∷◌, ◌++◌, None, unwrap_or, option_map}
 use Rattle.pex_listing.specs.Lines.{field}
 use Rattle.pex_listing.specs.Listing.{opcode_name}
 use Rattle.pex_listing.specs.declared.listing.FirstWord.{FirstWord}

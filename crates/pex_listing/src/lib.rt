@@ -13,5 +13,5 @@ mod strings;
 
 pub use assembling::assemble;
 pub use faults::{ListingFault, ListingRule, ShowFault};
-pub use laws::one_value;
+pub use laws::{one_value, spelled_fields_break_no_rule};
 pub use showing::show;

@@ -1,4 +1,4 @@
-use Rattle.std.proofs.Common.{ℕ, ◌<◌, ◌^◌, length, arith, rules}
+use Rattle.std.proofs.Common.{ℕ, ◌<◌, ◌^◌, arith, rules}
 use Rattle.std.proofs.lemmas.Grind.{common_steps}
 use Rattle.pex_values.specs.Spelling as spell
 use Rattle.pex_listing.specs.Lines.{number}

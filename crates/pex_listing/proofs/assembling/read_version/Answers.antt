@@ -1,4 +1,4 @@
-use Rattle.std.proofs.Common.{append_assoc, arith, rules}
+use Rattle.std.proofs.Common.{append_assoc, arith}
 use Rattle.pex_listing.proofs.Taken.{begun_more, begun_noted, ended, lines_as}
 use Rattle.pex_listing.proofs.assembling.read_version.Goals as goal
 

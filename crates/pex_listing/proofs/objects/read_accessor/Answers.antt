@@ -1,5 +1,5 @@
-use Rattle.std.proofs.Common.{◌≡◌, ℕ, ◌+◌, ◌-◌, ◌++◌, Bool, true, false, List, length, vec_len, refl, sym, subst, arith, rules}
-use Rattle.std.specs.Prelude.{Option, Some, None}
+use Rattle.std.proofs.Common.{◌≡◌, ℕ, ◌+◌, ◌-◌, Bool, true, false, List, length, vec_len, refl, sym, subst, arith, rules}
+use Rattle.std.specs.Prelude.{Some, None}
 use Rattle.pex_values.specs.declared.values.PexFunction.{PexFunction}
 use Rattle.pex_values.specs.Plain.{plain_function}
 use Rattle.pex_values.specs.Spelling as spell

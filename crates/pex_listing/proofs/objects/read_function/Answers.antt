@@ -2,7 +2,7 @@ use Rattle.std.proofs.Common.{◌≡◌, ◌++◌, List, ℕ, vec_len, append_as
 use Rattle.pex_values.specs.declared.values.PexFunction.{PexFunction}
 use Rattle.pex_values.specs.Fit.{FitsInstruction}
 use Rattle.pex_values.specs.Plain.{plain_instruction, plain_function}
-use Rattle.pex_values.specs.Shape.{ArePair, IsShapedInstruction}
+use Rattle.pex_values.specs.Shape.{IsShapedInstruction}
 use Rattle.pex_values.specs.Spelling as spell
 use Rattle.pex_values.proofs.Sizes.{function_size}
 use Rattle.pex_listing.specs.Lines.{line_end, number}

@@ -1,4 +1,4 @@
-use Rattle.std.proofs.Common.{◌≡◌, true, length, vec_len}
+use Rattle.std.proofs.Common.{vec_len}
 use Rattle.pex_values.specs.Shape.{IsShapedDatum}
 use Rattle.pex_values.specs.Spelling as spell
 use Rattle.pex_listing.specs.Listing as form

@@ -1,5 +1,4 @@
 use Rattle.std.proofs.Common.{◌≡◌, ◌++◌, [], sym, ap, ◌∙◌, append-nil, rules, arith}
-use Rattle.std.proofs.lemmas.Bool.{false≢true}
 use Rattle.pex_listing.specs.Lines.{field, quoted}
 use Rattle.pex_listing.specs.Opened.{fields_left}
 use Rattle.pex_listing.proofs.listing.Listing.string.Goals as goal
