@@ -10,41 +10,10 @@ use crate::faults::{EmitFault, Result};
 use crate::strings::Numbered;
 use crate::writer::Writer;
 use code_lower::Place;
-use core_tree::{CoreType, Value};
-use papy_base::Name;
+use core_tree::Value;
 use pex_values::Datum;
 
-/// What stands at a place of an instruction.
-#[derive(Clone, Copy)]
-pub(crate) enum Field<'a> {
-    Place(Place<'a>),
-    /// The name of a function or of a property.
-    Name(&'a Name),
-    /// The name of the script of this number.
-    Script(u16),
-    /// A size or an offset.
-    Number(i32),
-    /// None.
-    Nothing,
-}
-
-pub(crate) fn field_data(
-    writer: &mut Writer<'_>,
-    slots: &[(u16, u16)],
-    fields: &[Field<'_>],
-) -> Result<Vec<Datum>>
-    requires { AllByRecursion (ArePair (length writer.old)) slots.now }
-    ensures operands { IfOk result (λ found. AllByRecursion (IsShapedDatum (length writer.new)) found.items) }
-    ensures count { IfOk result (λ found. length found.items ≡ length fields.now) }
-    ensures goes { GoesOn writer.old writer.new }
-{
-    let mut found = Vec::with_capacity(writer.alloc(), fields.len())?;
-    for field in fields {
-        found.push(field_datum(writer, slots, *field)?)?;
-    }
-    Ok(found)
-}
-
+/// The operands as the file has them, of a function whose slots have these names and types.
 pub(crate) fn place_data(
     writer: &mut Writer<'_>,
     slots: &[(u16, u16)],
@@ -61,24 +30,12 @@ pub(crate) fn place_data(
     Ok(found)
 }
 
-fn field_datum(writer: &mut Writer<'_>, slots: &[(u16, u16)], field: Field<'_>) -> Result<Datum>
-    requires { AllByRecursion (ArePair (length writer.old)) slots.now }
-    ensures datum { IfOk result (IsShapedDatum (length writer.new)) }
-    ensures goes { GoesOn writer.old writer.new }
-{
-    match field {
-        Field::Place(place) => place_datum(writer, slots, place),
-        Field::Name(name) => Ok(Datum::Word(writer.string(name.as_bytes())?)),
-        Field::Script(number) => {
-            let kind = Some(CoreType::Script(number));
-            Ok(Datum::Word(writer.numbered(Numbered::Type(kind))?))
-        }
-        Field::Number(number) => Ok(Datum::Int(number)),
-        Field::Nothing => Ok(Datum::NoneValue),
-    }
-}
-
-fn place_datum(writer: &mut Writer<'_>, slots: &[(u16, u16)], place: Place<'_>) -> Result<Datum>
+/// The operand as the file has it.
+pub(crate) fn place_datum(
+    writer: &mut Writer<'_>,
+    slots: &[(u16, u16)],
+    place: Place<'_>,
+) -> Result<Datum>
     requires { AllByRecursion (ArePair (length writer.old)) slots.now }
     ensures datum { IfOk result (IsShapedDatum (length writer.new)) }
     ensures goes { GoesOn writer.old writer.new }

@@ -1,5 +1,5 @@
 // The strings of a file, each once, in order of first use, and the names of types.
-ghost use Rattle.std.specs.Prelude.{◌≡◌, ◌<◌, ◌≤◌, ◌^◌, [], length, map, IfOk, IfSome, OnOk};
+ghost use Rattle.std.specs.Prelude.{◌≡◌, ◌<◌, ◌^◌, [], length, map, slice_get, Some, IfOk, IfSome, OnOk};
 ghost use Rattle.pex_values.specs.Shape.{IsReference};
 ghost use Rattle.code_emit.specs.Strings.{with_string};
 ghost use Rattle.code_emit.specs.Writing.{GoesOn};
@@ -63,6 +63,7 @@ impl StringTable {
     pub(crate) fn place_of(&mut self, string: &[u8]) -> Result<u16>
         ensures added { OnOk result (self.new ≡ with_string self.old string.now) }
         ensures place { IfOk result (IsReference (length self.new)) }
+        ensures named { IfOk result (λ place. slice_get self.new place ≡ Some string.now) }
         ensures goes { GoesOn self.old self.new }
     {
         if let Some(place) = self.numbers.get_index_of(string) {

@@ -1,7 +1,7 @@
 // What is written of a file: its strings and debug entries.
 #![tactic(auto, using(crate::proofs::Goes::going))]
 
-ghost use Rattle.std.specs.Prelude.{◌≡◌, ◌<◌, ◌^◌, [], length, map, IfOk};
+ghost use Rattle.std.specs.Prelude.{◌≡◌, ◌<◌, ◌^◌, [], length, map, slice_get, Some, IfOk};
 ghost use Rattle.std.specs.List.{AllByRecursion};
 ghost use Rattle.pex_values.specs.Plain.{plain_lines};
 ghost use Rattle.pex_values.specs.Shape.{IsReference, IsShapedLines};
@@ -78,6 +78,7 @@ impl<'a> Writer<'a> {
     /// The place of a string in the file's table.
     pub(crate) fn string(&mut self, string: &[u8]) -> Result<u16>
         ensures place { IfOk result (IsReference (length self.new)) }
+        ensures named { IfOk result (λ place. slice_get self.new place ≡ Some string.now) }
         ensures goes { GoesOn self.old self.new }
     {
         self.strings.place_of(string)
