@@ -16,7 +16,7 @@ loop-preserved g c =
     let started : vec_len inside.stacks ≡ c.loop.self.started = ap (λ (t : ThreadTable). t.started) c.self-in-loop.view_is in
     record {
       size = search rules;
-      woken = woken_more c.args.turn c.args.self.now.started c.in-Some.stack c.loop.self.sleepers _ c.go_to_wait.result _ _ _ c.loop.invariant.woken (rw (← sleepers) c.in-Some.ensures.least) (rw (← sleepers) (c.go_to_wait.ensures.sleepers ∙ c.in-Some.ensures.taken)) c.go_to_wait.ensures.moved (λ some. omega (arith, started, c.go_to_wait.ensures.started some, c.loop.invariant.size.started)) c.in_ok-note_any.ensures.added;
+      woken = woken_more c.args.turn c.args.self.now.started c.in-Some.stack c.loop.self.sleepers _ c.go_to_wait-moved.result _ _ _ c.loop.invariant.woken (rw (← sleepers) c.in-Some.ensures.least) (rw (← sleepers) (c.go_to_wait-moved.ensures.sleepers ∙ c.in-Some.ensures.taken)) c.go_to_wait-moved.ensures.moved (λ some. omega (arith, started, c.go_to_wait-moved.ensures.started some, c.loop.invariant.size.started)) c.in_ok-note_any.ensures.added;
     }
 
 pub returns-after-loop-clause-noted : goal.returns-after-loop-clause-noted
