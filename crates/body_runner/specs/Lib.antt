@@ -1,6 +1,7 @@
 pub mod Arithmetic
 pub mod Calls
 pub mod Casts
+pub mod Frames
 pub mod Instructions
 pub mod Lines
 pub mod Operands

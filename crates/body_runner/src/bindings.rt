@@ -47,7 +47,7 @@ fn no_bindings(alloc: Global, outline: &Outline) -> Made<Vec<Vec<Option<Binding>
 }
 
 fn bind_natives(natives: &mut Vec<Vec<Option<Binding>>>, bound: &[BoundNative]) {
-    for native in bound {
+    for native in bound.iter().rev() {
         if let Some(functions) = natives.get_mut(usize::from(native.script)) {
             if let Some(binding) = functions.get_mut(usize::from(native.function)) {
                 *binding = Some(native.binding);

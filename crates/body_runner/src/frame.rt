@@ -1,6 +1,7 @@
 //! The frames of stacks.
 
-ghost use Rattle.std.specs.Prelude.{◌≤◌};
+ghost use Rattle.std.specs.Prelude.{◌≡◌, ◌≤◌};
+ghost use Rattle.body_runner.specs.Frames.{frames_below, inner_instance, is_done};
 
 use core_tree::Value;
 use loaded_code::{MethodPlace, PropertyPlace};
@@ -22,9 +23,11 @@ pub enum CallWay {
     Get(usize),
     /// The writing of a property.
     Set(usize),
+    /// By a name that no file has, so that nothing is found.
+    Missing,
 }
 
-/// A call that is pending: its function is looked up at its entry.
+/// A call that is to be entered: its function is looked up then.
 #[derive(Drop)]
 pub struct Call {
     /// None for a global function.
@@ -32,8 +35,8 @@ pub struct Call {
     pub way: CallWay,
     /// By parameter.
     pub arguments: Vec<Value>,
-    /// How the call names its function where a restored machine began with it. One that a machine made itself is
-    /// spelled in the code or in the scene.
+    /// How a call of the scene's names its function, or one with which a restored machine began. Any other is spelled by the
+    /// instruction at which the frame below it halts.
     pub kept: Option<Way>,
 }
 
@@ -69,9 +72,9 @@ impl LoadedBody {
     }
 }
 
-/// A body that was entered.
+/// An open body, and the instance that it is on.
 #[derive(Drop)]
-pub struct Running {
+pub struct Frame {
     /// None in a global function.
     pub instance: Option<u16>,
     pub body: LoadedBody,
@@ -79,30 +82,58 @@ pub struct Running {
     pub place: usize,
     /// The parameters, and the locals behind them.
     pub slots: Vec<Value>,
-    /// What the act gave, until the next turn of the stack.
-    pub reply: Option<Value>,
 }
 
-/// A frame.
+/// The frames of one stack. Those below the innermost one stand outermost first, and each waits for what the one above it gives.
 #[derive(Drop)]
-pub enum Frame {
-    Pending(Call),
-    Running(Running),
+pub enum Stack {
+    /// Its first call has returned.
+    Done,
+    /// The innermost frame is still a call.
+    ToEnter {
+        call: Call,
+        below: Vec<Frame>,
+    },
+    /// The innermost frame is an open body.
+    Running {
+        innermost: Frame,
+        /// What its act gave, until the next turn of the stack.
+        reply: Option<Value>,
+        below: Vec<Frame>,
+    },
 }
 
-impl Frame {
-    /// The instance that the frame belongs to.
-    pub fn instance(&self) -> Option<u16> {
+impl Stack {
+    /// The instance of the innermost frame.
+    pub fn instance(&self) -> Option<u16>
+        ensures { result ≡ inner_instance self.now }
+    {
         match self {
-            Frame::Pending(call) => call.instance,
-            Frame::Running(running) => running.instance,
+            Stack::Done => None,
+            Stack::ToEnter { call, .. } => call.instance,
+            Stack::Running { innermost, .. } => innermost.instance,
         }
     }
-}
 
-/// The frames of one stack.
-#[derive(Drop)]
-pub struct Stack {
-    /// Innermost last.
-    pub frames: Vec<Frame>,
+    /// The frames below the innermost one.
+    pub fn below(&self) -> &[Frame]
+        ensures { result.now ≡ frames_below self.now }
+    {
+        match self {
+            Stack::Done => &[],
+            Stack::ToEnter { below, .. } => below.as_slice(),
+            Stack::Running { below, .. } => below.as_slice(),
+        }
+    }
+
+    /// Whether its first call has returned.
+    pub fn is_done(&self) -> bool
+        ensures { result ≡ is_done self.now }
+    {
+        match self {
+            Stack::Done => true,
+            Stack::ToEnter { .. } => false,
+            Stack::Running { .. } => false,
+        }
+    }
 }

@@ -135,6 +135,7 @@ impl Setting {
         way: CallWay,
     ) -> Option<Found> {
         match way {
+            CallWay::Missing => None,
             CallWay::Global(at) => Some(Found::Body(LoadedBody::Method(at))),
             CallWay::Method(name) => self.find_method(state, self.script_of(instance?)?, name),
             CallWay::Parent { script, name } => {

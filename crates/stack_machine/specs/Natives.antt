@@ -1,14 +1,17 @@
 -- What native functions do to devices and to the report, and what they give.
-use Rattle.std.specs.Prelude.{ℕ, List, [], ◌∷◌, Option, None, Some, ℤ, pos, length, map, min, nat_lt, int_lt, not, slice_set, if◌then◌else◌}
+use Rattle.std.specs.Prelude.{ℕ, Bool, true, false, List, [], ◌∷◌, Option, None, Some, ℤ, pos, length, map, min, nat_lt, int_lt, not, slice_get, slice_set, if◌then◌else◌}
+use Rattle.std.specs.Option.{option_and_then}
 use Rattle.std.specs.Int.RustNames.{unsigned_abs}
 use Rattle.std.specs.Ordering.{int_eq}
 use Rattle.core_tree.specs.Device.{DeviceState, device_at, device_step}
 use Rattle.core_tree.specs.declared.core_type.CoreType.{CoreType}
 use Rattle.core_tree.specs.declared.core_type.CoreType.TheVariants as kinds
+use Rattle.core_tree.specs.declared.outline.OutlineScript.{OutlineScript}
 use Rattle.core_tree.specs.declared.scene_tree.Binding.{Binding}
 use Rattle.core_tree.specs.declared.scene_tree.Binding.TheVariants as bindings
 use Rattle.core_tree.specs.declared.value.Value.{Value}
 use Rattle.core_tree.specs.declared.value.Value.TheVariants as values
+use Rattle.loaded_code.specs.declared.script.MethodPlace.{MethodPlace}
 use Rattle.body_runner.specs.Lines.{trace_line}
 use Rattle.body_runner.specs.Values.{number_in}
 
@@ -82,11 +85,24 @@ abbrev pub reply_called : Option ℕ → List DeviceState → List Value → Opt
 reply_called None devices arguments kind = values.NoneValue
 reply_called (Some device) devices arguments kind = reply_value kind (device_reply devices device arguments)
 
--- how long the stack rests, none of a prompt native
-abbrev pub rest_of : Option Binding → List Value → Option ℕ
-rest_of None arguments = None
-rest_of (Some bindings.Sleep) arguments = Some (turns_asleep (first_number arguments))
-rest_of (Some (bindings.Trace latency)) arguments = Some latency
-rest_of (Some (bindings.Device device latency)) arguments = Some latency
-rest_of (Some bindings.PromptTrace) arguments = None
-rest_of (Some (bindings.PromptDevice device)) arguments = None
+abbrev pub is_prompt : Option Binding → Bool
+is_prompt None = false
+is_prompt (Some bindings.Sleep) = false
+is_prompt (Some (bindings.Trace latency)) = false
+is_prompt (Some (bindings.Device device latency)) = false
+is_prompt (Some bindings.PromptTrace) = true
+is_prompt (Some (bindings.PromptDevice device)) = true
+
+-- for how many turns the stack sleeps where it isn't
+abbrev pub latency_of : Option Binding → List Value → ℕ
+latency_of None arguments = 0
+latency_of (Some bindings.Sleep) arguments = turns_asleep (first_number arguments)
+latency_of (Some (bindings.Trace latency)) arguments = latency
+latency_of (Some (bindings.Device device latency)) arguments = latency
+latency_of (Some bindings.PromptTrace) arguments = 0
+latency_of (Some (bindings.PromptDevice device)) arguments = 0
+
+-- the type of its result, as the outline tells it
+abbrev pub result_of : List OutlineScript → MethodPlace → Option CoreType
+result_of scripts at =
+    option_and_then (λ script. option_and_then (λ function. function.result) (slice_get script.functions.items at.place)) (slice_get scripts at.script)

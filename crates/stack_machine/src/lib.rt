@@ -1,6 +1,8 @@
 //! The machine that runs loaded Papyrus scripts in turns: one stack runs at a time, from one act to the next.
 #![tactic(auto)]
 
+mod acts;
+mod entry;
 mod machine;
 mod moves;
 mod natives;
@@ -13,6 +15,7 @@ mod snapshot;
 mod sound;
 mod status;
 mod threads;
+mod turns;
 mod world;
 
 pub use body_runner::append_escaped;

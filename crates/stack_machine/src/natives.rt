@@ -2,13 +2,12 @@
 #![tactic(auto, using(crate::proofs::Sinks::sinks))]
 
 ghost use Rattle.std.specs.Prelude.{◌≡◌, IfOk, OnErr, OnOk, map};
-ghost use Rattle.std.specs.Option.{option_and_then};
 ghost use Rattle.core_tree.specs.declared.value.Value.TheVariants as values;
 ghost use Rattle.latent_natives.specs.Devices.{SameKinds};
 ghost use Rattle.papy_io.specs.Sink.{Appended};
 ghost use Rattle.stack_machine.specs.Machine.{CountsTurn};
-ghost use Rattle.stack_machine.specs.Natives.{called_device, device_reply, devices_after, devices_called, first_number, line_of, reply_called, reply_value, rest_of, traced, turns_asleep};
-ghost use Rattle.body_runner.specs.Settings.{binding_in, method_at};
+ghost use Rattle.stack_machine.specs.Natives.{called_device, device_reply, devices_after, devices_called, first_number, is_prompt, latency_of, line_of, reply_called, reply_value, result_of, traced, turns_asleep};
+ghost use Rattle.body_runner.specs.Settings.{binding_in};
 ghost use Rattle.body_runner.specs.Values.{number_in};
 ghost use Rattle.stack_machine.specs.Written.{WritesLines};
 
@@ -24,22 +23,42 @@ use std::alloc::Global;
 /// The longest latency, in turns.
 const LONGEST_SLEEP: i32 = 1_000_000;
 
-/// What a native gave.
-#[derive(Drop)]
-pub struct Performed {
-    pub reply: Value,
-    /// Its latency, none where it is prompt.
-    pub rest: Option<u32>,
+/// Whether a native is prompt: its reply comes at once, and no act.
+pub fn is_prompt(setting: &Setting, native: MethodPlace) -> bool
+    ensures { result ≡ is_prompt (binding_in setting.now.bindings.natives.items native) }
+{
+    match setting.bindings.of_native(native) {
+        Some(Binding::PromptTrace) => true,
+        Some(Binding::PromptDevice { .. }) => true,
+        Some(Binding::Sleep) => false,
+        Some(Binding::Trace { .. }) => false,
+        Some(Binding::Device { .. }) => false,
+        None => false,
+    }
 }
 
-/// Performs a native, once.
+/// For how many turns a stack sleeps after a native that isn't prompt.
+pub fn latency_of(setting: &Setting, native: MethodPlace, arguments: &[Value]) -> u32
+    ensures { result ≡ latency_of (binding_in setting.now.bindings.natives.items native) arguments.now }
+{
+    match setting.bindings.of_native(native) {
+        Some(Binding::Sleep) => sleep_of(arguments),
+        Some(Binding::Trace { latency }) => latency,
+        Some(Binding::Device { latency, .. }) => latency,
+        Some(Binding::PromptTrace) => 0,
+        Some(Binding::PromptDevice { .. }) => 0,
+        None => 0,
+    }
+}
+
+/// Performs a native, once, and gives its reply.
 pub fn perform<S: Sink>(
     turn: &Turn<'_>,
     native: MethodPlace,
     arguments: &[Value],
     sink: &mut S,
     devices: &mut Vec<Box<dyn Device>>,
-) -> Result<Performed, TurnFault>
+) -> Result<Value, TurnFault>
     ensures appended { WritesLines result (S.written sink.old) (S.written sink.new) }
     ensures count { CountsTurn result (S.faults sink.old) (S.faults sink.new) }
     ensures kinds { SameKinds (map (λ d. device_state d) devices.old.items) (map (λ d. device_state d) devices.new.items) }
@@ -50,30 +69,22 @@ pub fn perform<S: Sink>(
     ensures devices { let binding = binding_in turn.now.setting.now.bindings.natives.items native in
         OnOk result (map (λ d. device_state d) devices.new.items ≡ devices_called (called_device binding) (map (λ d. device_state d) devices.old.items) arguments.now) }
     ensures reply { let binding = binding_in turn.now.setting.now.bindings.natives.items native in
-        let kind = option_and_then (λ function. function.result) (method_at turn.now.setting.now.loaded.scripts native) in
-        IfOk result (λ performed. performed.reply ≡ reply_called (called_device binding) (map (λ d. device_state d) devices.old.items) arguments.now kind) }
-    ensures rest { let binding = binding_in turn.now.setting.now.bindings.natives.items native in
-        IfOk result (λ performed. performed.rest ≡ rest_of binding arguments.now) }
+        let kind = result_of turn.now.setting.now.loaded.outline native in
+        IfOk result (λ reply. reply ≡ reply_called (called_device binding) (map (λ d. device_state d) devices.old.items) arguments.now kind) }
 {
     match turn.setting.bindings.of_native(native) {
-        Some(Binding::Sleep) => Ok(Performed {
-            reply: Value::NoneValue,
-            rest: Some(sleep_of(arguments)),
-        }),
-        Some(Binding::Trace { latency }) => trace(turn, arguments, sink, Some(latency)),
-        Some(Binding::PromptTrace) => trace(turn, arguments, sink, None),
-        Some(Binding::Device { device, latency }) => {
+        Some(Binding::Sleep) => Ok(Value::NoneValue),
+        Some(Binding::Trace { .. }) => trace(turn, arguments, sink),
+        Some(Binding::PromptTrace) => trace(turn, arguments, sink),
+        Some(Binding::Device { device, .. }) => {
             let reply = call(turn.alloc, device, arguments, devices)?;
-            Ok(replied(turn.setting, native, reply, Some(latency)))
+            Ok(value_of(result_of(turn.setting, native), reply))
         }
         Some(Binding::PromptDevice { device }) => {
             let reply = call(turn.alloc, device, arguments, devices)?;
-            Ok(replied(turn.setting, native, reply, None))
+            Ok(value_of(result_of(turn.setting, native), reply))
         }
-        None => Ok(Performed {
-            reply: Value::NoneValue,
-            rest: None,
-        }),
+        None => Ok(Value::NoneValue),
     }
 }
 
@@ -91,28 +102,18 @@ fn sleep_of(arguments: &[Value]) -> u32
     asked.min(LONGEST_SLEEP).cast_unsigned()
 }
 
-fn trace<S: Sink>(
-    turn: &Turn<'_>,
-    arguments: &[Value],
-    sink: &mut S,
-    rest: Option<u32>,
-) -> Result<Performed, TurnFault>
+fn trace<S: Sink>(turn: &Turn<'_>, arguments: &[Value], sink: &mut S) -> Result<Value, TurnFault>
     ensures appended { WritesLines result (S.written sink.old) (S.written sink.new) }
     ensures count { CountsTurn result (S.faults sink.old) (S.faults sink.new) }
     ensures line { OnOk result (Appended (traced turn.now.stack arguments.now) (S.written sink.old) (S.written sink.new)) }
-    ensures reply { IfOk result (λ performed. performed.reply ≡ values.NoneValue) }
-    ensures rest { IfOk result (λ performed. performed.rest ≡ rest) }
+    ensures reply { IfOk result (λ reply. reply ≡ values.NoneValue) }
 {
-    let performed = Performed {
-        reply: Value::NoneValue,
-        rest,
-    };
     let Some(Value::Text(text)) = arguments.first() else {
-        return Ok(performed);
+        return Ok(Value::NoneValue);
     };
     let line = trace_line(turn.alloc, turn.stack, text)?;
     sink.write(line.as_slice())?;
-    Ok(performed)
+    Ok(Value::NoneValue)
 }
 
 // The reply of a device, 0 where it isn't there.
@@ -145,18 +146,13 @@ fn numbers_of(alloc: Global, arguments: &[Value]) -> Made<Vec<i32>>
     Ok(numbers)
 }
 
-fn replied(setting: &Setting, native: MethodPlace, reply: i32, rest: Option<u32>) -> Performed
-    ensures reply { result.reply ≡ reply_value (option_and_then (λ function. function.result) (method_at setting.now.loaded.scripts native)) reply }
-    ensures rest { result.rest ≡ rest }
-{
-    let reply = value_of(result_of(setting, native), reply);
-    Performed { reply, rest }
-}
-
+// The type of a native's result, as the outline tells it.
 fn result_of(setting: &Setting, native: MethodPlace) -> Option<CoreType>
-    ensures { result ≡ option_and_then (λ function. function.result) (method_at setting.now.loaded.scripts native) }
+    ensures { result ≡ result_of setting.now.loaded.outline native }
 {
-    setting.method(native)?.result
+    let scripts = &setting.loaded.outline().scripts;
+    let script = scripts.get(usize::from(native.script))?;
+    script.functions.get(native.place)?.result
 }
 
 // A reply as a value of the native's result type.

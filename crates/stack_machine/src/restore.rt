@@ -13,11 +13,11 @@ use crate::sound::is_sound;
 use crate::status::RestoreFault;
 use crate::threads::Threads;
 use crate::world::World;
-use body_runner::{Bindings, Call, Frame, Running, Setting, Store};
+use body_runner::{Bindings, Call, Frame, Setting, Stack, Store};
 use core_tree::{CoreType, Outline, Scene, Value};
 use instance_store::{Arrays, Instance, Instances, ScriptVariables};
 use latent_natives::{Device, load_device};
-use machine_state::{FrameState, MachineState};
+use machine_state::{FrameState, MachineState, Way};
 use papy_base::{Made, OutOfMemory, Text, lineage_of};
 use pex_verify::Loaded;
 use std::alloc::Global;
@@ -263,10 +263,37 @@ fn revive_stacks(
     ensures started { OnOk result (threads.new.started ≡ threads.old.started + length stacks.old) }
 {
     for place in 0..stacks.len() {
-        let frames = revived_frames(alloc, setting, &mut stacks[place])?;
-        threads.add(frames)?;
+        let stack = revived_stack(alloc, setting, &mut stacks[place])?;
+        threads.add(stack)?;
     }
     Ok(())
+}
+
+// A stack, of which all frames but the innermost one are open bodies.
+fn revived_stack(alloc: Global, setting: &Setting, told: &mut [FrameState]) -> Made<Stack> {
+    let Some((last, outer)) = told.split_last_mut() else {
+        return Ok(Stack::Done);
+    };
+    let below = revived_frames(alloc, setting, outer)?;
+    match last {
+        FrameState::ToEnter {
+            instance,
+            way,
+            arguments,
+        } => {
+            let call = revived_call(alloc, setting, *instance, way, arguments)?;
+            Ok(Stack::ToEnter { call, below })
+        }
+        FrameState::Running { reply, .. } => {
+            let reply = reply.take();
+            let innermost = revived_frame(alloc, setting, last)?;
+            Ok(Stack::Running {
+                innermost,
+                reply,
+                below,
+            })
+        }
+    }
 }
 
 fn revived_frames(alloc: Global, setting: &Setting, told: &mut [FrameState]) -> Made<Vec<Frame>> {
@@ -277,39 +304,42 @@ fn revived_frames(alloc: Global, setting: &Setting, told: &mut [FrameState]) -> 
     Ok(frames)
 }
 
+fn revived_call(
+    alloc: Global,
+    setting: &Setting,
+    instance: Option<u16>,
+    way: &Way,
+    arguments: &mut Vec<Value>,
+) -> Made<Call> {
+    let found = setting.way_named(alloc, way)?.ok_or(OutOfMemory)?;
+    let kept = Some(copy_of(alloc, way)?);
+    Ok(Call {
+        instance,
+        way: found,
+        arguments: mem::replace(arguments, Vec::new(alloc)),
+        kept,
+    })
+}
+
+// An open body.
 fn revived_frame(alloc: Global, setting: &Setting, told: &mut FrameState) -> Made<Frame> {
-    match told {
-        FrameState::ToEnter {
-            instance,
-            way,
-            arguments,
-        } => {
-            let found = setting.way_named(alloc, way)?.ok_or(OutOfMemory)?;
-            let kept = Some(copy_of(alloc, way)?);
-            Ok(Frame::Pending(Call {
-                instance: *instance,
-                way: found,
-                arguments: mem::replace(arguments, Vec::new(alloc)),
-                kept,
-            }))
-        }
-        FrameState::Running {
-            instance,
-            at,
-            instruction,
-            slots,
-            reply,
-        } => {
-            let body = setting.body_named(alloc, at)?.ok_or(OutOfMemory)?;
-            Ok(Frame::Running(Running {
-                instance: *instance,
-                body,
-                place: usize::from(*instruction),
-                slots: mem::replace(slots, Vec::new(alloc)),
-                reply: reply.take(),
-            }))
-        }
-    }
+    let FrameState::Running {
+        instance,
+        at,
+        instruction,
+        slots,
+        ..
+    } = told
+    else {
+        return Err(OutOfMemory);
+    };
+    let body = setting.body_named(alloc, at)?.ok_or(OutOfMemory)?;
+    Ok(Frame {
+        instance: *instance,
+        body,
+        place: usize::from(*instruction),
+        slots: mem::replace(slots, Vec::new(alloc)),
+    })
 }
 
 // Lets stacks hold instances for which nobody waits yet.
@@ -317,7 +347,7 @@ fn take_all(threads: &mut Threads, owners: &[(u16, u16)])
     ensures { IsSameSize threads.old threads.new }
 {
     for owner in owners {
-        threads.go_to_wait(owner.1);
+        threads.go_to_wait(owner.1, Some(owner.0));
         threads.take(owner.1);
     }
 }
@@ -327,7 +357,7 @@ fn wait_all(threads: &mut Threads, waiters: &[(u16, u16)])
     ensures { IsSameSize threads.old threads.new }
 {
     for waiter in waiters {
-        threads.go_to_wait(waiter.1);
+        threads.go_to_wait(waiter.1, Some(waiter.0));
     }
 }
 
@@ -336,7 +366,7 @@ fn free_all(threads: &mut Threads, free: &[u16])
     ensures { IsSameSize threads.old threads.new }
 {
     for stack in free {
-        threads.go_to_wait(*stack);
+        threads.go_to_wait(*stack, None);
     }
 }
 

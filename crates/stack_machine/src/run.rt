@@ -6,37 +6,36 @@ ghost use Rattle.latent_natives.specs.Devices.{SameKinds};
 ghost use Rattle.stack_machine.specs.Machine.{CountsTurn};
 ghost use Rattle.stack_machine.specs.Written.{WritesLines};
 
-use crate::natives::{Performed, perform};
+use crate::natives::{is_prompt, perform};
 use crate::status::TurnFault;
-use body_runner::{
-    Call, Event, Found, Frame, Home, Inner, LoadedBody, Running, Stack, Step, Store, Turn,
-    fault_line,
-};
+use body_runner::{Call, Event, Frame, Home, Inner, Step, Store, Turn, fault_line};
 use core_tree::Value;
 use latent_natives::Device;
 use loaded_code::{LoadedInstruction, MethodPlace};
 use papy_base::{Made, StackFault};
 use papy_io::Sink;
-use std::mem;
 
-/// What ended a run of a stack.
+/// What ends the turn of a body.
 #[derive(Drop)]
-pub enum RunEnd {
+pub enum Act {
     /// A loop pass.
     Pass,
     /// A call that needs a frame.
-    Called(Call),
-    /// A global native that isn't prompt was performed.
-    Performed { reply: Value, latency: u32 },
-    /// The frame gave its reply: its body returned, or what it called is a native method or an Auto property.
-    Returned(Performed),
+    Call(Call),
+    /// A global native that isn't prompt is to be performed.
+    Native {
+        at: MethodPlace,
+        arguments: Vec<Value>,
+    },
+    /// The body gives this value.
+    Return(Value),
 }
 
-// Where a body halts, and what ended its run.
+// Where a body halts, and what it comes to there.
 #[derive(Drop)]
 struct Halt {
     at: usize,
-    end: RunEnd,
+    act: Act,
 }
 
 // Where a row of instructions halts, and what the last of them did: it faulted, leads to a place that doesn't lie ahead, or calls
@@ -47,135 +46,44 @@ struct Row {
     halt: Step,
 }
 
-/// Runs a stack's innermost frame up to the act that ends the turn. A call that is pending is entered first. Where there is no
-/// frame, the stack passes.
-pub fn run_innermost<S: Sink>(
+/// Runs a body up to the act that ends the turn. The reply that it awaits is stored first, and it goes on behind its act. One
+/// without a function returns None.
+pub fn run<S: Sink>(
     turn: &Turn<'_>,
     store: &mut Store,
-    stack: &mut Stack,
     has_room: bool,
+    innermost: &mut Frame,
+    reply: Option<Value>,
     sink: &mut S,
     devices: &mut Vec<Box<dyn Device>>,
-) -> Result<RunEnd, TurnFault>
+) -> Result<Act, TurnFault>
     ensures appended { WritesLines result (S.written sink.old) (S.written sink.new) }
     ensures count { CountsTurn result (S.faults sink.old) (S.faults sink.new) }
     ensures kinds { SameKinds (map (λ d. device_state d) devices.old.items) (map (λ d. device_state d) devices.new.items) }
 {
-    let Some(frame) = stack.frames.last_mut() else {
-        return Ok(RunEnd::Pass);
-    };
-    if let Some(ending) = enter(turn, store, frame, sink, devices)? {
-        return Ok(ending);
-    }
-    match frame {
-        Frame::Running(running) => run_frame(turn, store, running, has_room, sink, devices),
-        Frame::Pending(_) => Ok(RunEnd::Pass),
-    }
-}
-
-// Enters a frame's call where it is pending: a body takes the call's place, and anything else ends the frame.
-fn enter<S: Sink>(
-    turn: &Turn<'_>,
-    store: &mut Store,
-    frame: &mut Frame,
-    sink: &mut S,
-    devices: &mut Vec<Box<dyn Device>>,
-) -> Result<Option<RunEnd>, TurnFault>
-    ensures appended { WritesLines result (S.written sink.old) (S.written sink.new) }
-    ensures count { CountsTurn result (S.faults sink.old) (S.faults sink.new) }
-    ensures kinds { SameKinds (map (λ d. device_state d) devices.old.items) (map (λ d. device_state d) devices.new.items) }
-{
-    let Frame::Pending(call) = frame else {
-        return Ok(None);
-    };
-    let state = store.state_number(call.instance);
-    match turn.setting.look_up(state, call.instance, call.way) {
-        Some(Found::Body(body)) => {
-            let running = open(turn, call, body)?;
-            *frame = Frame::Running(running);
-            Ok(None)
-        }
-        Some(Found::Native(native)) => {
-            let performed = perform(turn, native, &call.arguments, sink, devices)?;
-            Ok(Some(RunEnd::Returned(performed)))
-        }
-        Some(Found::Variable(property, variable)) => {
-            let reply = set_or_get(store, call, property.script, variable)?;
-            Ok(Some(returning(reply)))
-        }
-        None => Ok(Some(returning(Value::NoneValue))),
-    }
-}
-
-// The frame of a body: its parameters are the call's arguments, which are taken, and its locals have their defaults.
-fn open(turn: &Turn<'_>, call: &mut Call, body: LoadedBody) -> Made<Running> {
-    let mut slots = mem::replace(&mut call.arguments, Vec::new(turn.alloc));
-    if let Some(function) = turn.setting.function(body) {
-        for (_, kind) in &function.locals {
-            slots.push(Value::default_of(turn.alloc, *kind)?)?;
-        }
-    }
-    Ok(Running {
-        instance: call.instance,
-        body,
-        place: 0,
-        slots,
-        reply: None,
-    })
-}
-
-// An Auto property: its variable is written, or read where the call has no argument.
-fn set_or_get(store: &mut Store, call: &mut Call, script: u16, variable: u16) -> Made<Value> {
-    let Some(instance) = call.instance else {
-        return Ok(Value::NoneValue);
-    };
-    let Some(value) = call.arguments.pop() else {
-        return store.variable(instance, script, variable);
-    };
-    store.set_variable(instance, script, variable, value);
-    Ok(Value::NoneValue)
-}
-
-fn returning(reply: Value) -> RunEnd {
-    RunEnd::Returned(Performed { reply, rest: None })
-}
-
-// Runs a frame's body up to the act that ends the turn: the reply that it awaited is stored, and it goes on
-// behind its act. A frame without a body passes.
-fn run_frame<S: Sink>(
-    turn: &Turn<'_>,
-    store: &mut Store,
-    running: &mut Running,
-    has_room: bool,
-    sink: &mut S,
-    devices: &mut Vec<Box<dyn Device>>,
-) -> Result<RunEnd, TurnFault>
-    ensures appended { WritesLines result (S.written sink.old) (S.written sink.new) }
-    ensures count { CountsTurn result (S.faults sink.old) (S.faults sink.new) }
-    ensures kinds { SameKinds (map (λ d. device_state d) devices.old.items) (map (λ d. device_state d) devices.new.items) }
-{
-    let Some(function) = turn.setting.function(running.body) else {
-        return Ok(RunEnd::Pass);
+    let Some(function) = turn.setting.function(innermost.body) else {
+        drop(reply);
+        return Ok(Act::Return(Value::NoneValue));
     };
     let home = Home {
         turn,
         function,
-        instance: running.instance,
-        script: running.body.script(),
+        instance: innermost.instance,
+        script: innermost.body.script(),
         has_room,
     };
-    let (mut place, reply) = (running.place, running.reply.take());
+    let mut place = innermost.place;
     let mut inner = Inner {
-        slots: &mut running.slots,
+        slots: &mut innermost.slots,
         store,
     };
     if let Some(reply) = reply {
         give(&home, &mut inner, place, reply)?;
         place = place.saturating_add(1);
     }
-    let halt = run_body(&home, &mut inner, place, sink, devices)?;
-    running.place = halt.at;
-    Ok(halt.end)
+    let halt = run_on(&home, &mut inner, place, sink, devices)?;
+    innermost.place = halt.at;
+    Ok(halt.act)
 }
 
 // Stores the reply to the act at a place.
@@ -190,7 +98,7 @@ fn give(home: &Home<'_>, inner: &mut Inner<'_>, place: usize, reply: Value) -> M
 }
 
 // Runs a body up to the act that ends its turn, which a loop pass does only as the last that the turn may have.
-fn run_body<S: Sink>(
+fn run_on<S: Sink>(
     home: &Home<'_>,
     inner: &mut Inner<'_>,
     from: usize,
@@ -204,10 +112,7 @@ fn run_body<S: Sink>(
     let mut place = from;
     for _ in 1..home.turn.setting.scene.quantum {
         match run_pass(home, inner, place, sink, devices)? {
-            Halt {
-                at,
-                end: RunEnd::Pass,
-            } => place = at,
+            Halt { at, act: Act::Pass } => place = at,
             halt => return Ok(halt),
         }
     }
@@ -276,7 +181,7 @@ fn returned(home: &Home<'_>, place: usize) -> Made<Halt> {
     let value = Value::default_of(home.turn.alloc, home.function.result)?;
     Ok(Halt {
         at: place,
-        end: returning(value),
+        act: Act::Return(value),
     })
 }
 
@@ -297,7 +202,7 @@ fn follow<S: Sink>(
         Step::Done => Ok(Some(returned(home, row.place)?)),
         Step::Jump(landing) => Ok(Some(Halt {
             at: usize::from(landing),
-            end: RunEnd::Pass,
+            act: Act::Pass,
         })),
         Step::Faulted(fault) => refuse(home, row.place, sink, fault),
         Step::Leaves => leave(home, inner, row.place, sink, devices),
@@ -323,22 +228,28 @@ fn leave<S: Sink>(
         Event::Refused(fault) => refuse(home, place, sink, fault),
         Event::Called(call) => Ok(Some(Halt {
             at: place,
-            end: RunEnd::Called(call),
+            act: Act::Call(call),
         })),
         Event::Returned(value) => Ok(Some(Halt {
             at: place,
-            end: returning(value),
+            act: Act::Return(value),
         })),
         Event::Native { at, arguments } => {
-            let halt = run_native(home, inner, place, at, &arguments, sink, devices);
+            if !is_prompt(home.turn.setting, at) {
+                return Ok(Some(Halt {
+                    at: place,
+                    act: Act::Native { at, arguments },
+                }));
+            }
+            let halt = answer_native(home, inner, place, at, &arguments, sink, devices);
             drop(arguments);
             halt
         }
     }
 }
 
-// Performs a global native. One that is prompt is no act: its reply is stored, and the next instruction follows.
-fn run_native<S: Sink>(
+// Performs a global native that is prompt. That is no act: its reply is stored, and the next instruction follows.
+fn answer_native<S: Sink>(
     home: &Home<'_>,
     inner: &mut Inner<'_>,
     place: usize,
@@ -351,17 +262,9 @@ fn run_native<S: Sink>(
     ensures count { CountsTurn result (S.faults sink.old) (S.faults sink.new) }
     ensures kinds { SameKinds (map (λ d. device_state d) devices.old.items) (map (λ d. device_state d) devices.new.items) }
 {
-    let Performed { reply, rest } = perform(home.turn, native, arguments, sink, devices)?;
-    match rest {
-        Some(latency) => Ok(Some(Halt {
-            at: place,
-            end: RunEnd::Performed { reply, latency },
-        })),
-        None => {
-            give(home, inner, place, reply)?;
-            Ok(None)
-        }
-    }
+    let reply = perform(home.turn, native, arguments, sink, devices)?;
+    give(home, inner, place, reply)?;
+    Ok(None)
 }
 
 // Writes a fault of the instruction at a place, behind which the body goes on.

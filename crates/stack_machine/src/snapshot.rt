@@ -5,10 +5,9 @@ ghost use Rattle.machine_state.specs.Plain.{plain};
 ghost use Rattle.machine_state.specs.Savable.{IsSavable};
 
 use crate::machine::Machine;
-use crate::plan::Plan;
 use crate::savable::is_savable;
 use crate::world::World;
-use body_runner::{Call, Frame, Running, Setting, called_way, copies, name_of};
+use body_runner::{Call, Frame, Setting, Stack, called_way, copies, name_of};
 use core_tree::{CoreType, DeviceKind, Value};
 use instance_store::ScriptVariables;
 use latent_natives::Device;
@@ -37,7 +36,6 @@ impl Machine {
         let teller = Teller {
             alloc,
             setting: &self.setting,
-            plan: &self.plan,
             world: &self.world,
         };
         let count = self.setting.scene.instances.len() as u16;
@@ -66,7 +64,6 @@ impl Machine {
 struct Teller<'a> {
     alloc: Global,
     setting: &'a Setting,
-    plan: &'a Plan,
     world: &'a World,
 }
 
@@ -168,69 +165,64 @@ impl Teller<'_> {
 
     fn frames(&self, stack: u16) -> Made<Vec<FrameState>> {
         let mut told = Vec::new(self.alloc);
-        let mut below = None;
-        if let Some(found) = self.world.threads.stack(stack) {
-            for frame in &found.frames {
-                told.push(match frame {
-                    Frame::Pending(call) => self.call(stack, below, call)?,
-                    Frame::Running(running) => self.body(running)?,
-                })?;
-                below = Some(frame);
-            }
+        let Some(found) = self.world.threads.stack(stack) else {
+            return Ok(told);
+        };
+        for frame in found.below() {
+            told.push(self.frame(frame, None)?)?;
+        }
+        match found {
+            Stack::Done => {}
+            Stack::ToEnter { call, below } => told.push(self.call(call, below.last())?)?,
+            Stack::Running {
+                innermost,
+                reply,
+                ..
+            } => told.push(self.frame(innermost, reply.as_ref())?)?,
         }
         Ok(told)
     }
 
-    fn call(&self, stack: u16, below: Option<&Frame>, call: &Call) -> Made<FrameState> {
+    // A call that is to be entered, above this frame.
+    fn call(&self, call: &Call, below: Option<&Frame>) -> Made<FrameState> {
         Ok(FrameState::ToEnter {
             instance: call.instance,
-            way: self.way(stack, below, call)?,
+            way: self.way(call, below)?,
             arguments: copies(self.alloc, &call.arguments)?,
         })
     }
 
-    // How a pending call of a stack names its function.
-    fn way(&self, stack: u16, below: Option<&Frame>, call: &Call) -> Made<Way> {
+    // How a call names its function.
+    fn way(&self, call: &Call, below: Option<&Frame>) -> Made<Way> {
         match (&call.kept, below) {
             (Some(kept), _) => copy_of(self.alloc, kept),
             (None, Some(frame)) => self.way_of_instruction(frame),
-            (None, None) => self.way_of_scene(stack),
+            (None, None) => Err(OutOfMemory),
         }
     }
 
-    // The first call of a stack is one of the scene's.
-    fn way_of_scene(&self, stack: u16) -> Made<Way> {
-        let scene = &self.setting.scene;
-        let planned = self.plan.calls.get(usize::from(stack)).ok_or(OutOfMemory)?;
-        let call = scene.calls.get(planned.number).ok_or(OutOfMemory)?;
-        Ok(Way::Method(call.function.try_clone(self.alloc)?))
-    }
-
-    // Another call is that of the instruction at which the frame below it halts.
+    // As the instruction at which the frame below the call halts.
     fn way_of_instruction(&self, below: &Frame) -> Made<Way> {
-        let Frame::Running(running) = below else {
-            return Err(OutOfMemory);
-        };
-        let function = self.setting.function(running.body).ok_or(OutOfMemory)?;
-        let instruction = function.code.get(running.place).ok_or(OutOfMemory)?;
-        called_way(self.alloc, instruction, running.body.script())?.ok_or(OutOfMemory)
+        let function = self.setting.function(below.body).ok_or(OutOfMemory)?;
+        let instruction = function.code.get(below.place).ok_or(OutOfMemory)?;
+        called_way(self.alloc, instruction, below.body.script())?.ok_or(OutOfMemory)
     }
 
-    // A body that runs. Where it stands is spelled as it is declared.
-    fn body(&self, running: &Running) -> Made<FrameState> {
-        let (setting, body) = (self.setting, running.body);
+    // An open body, for which a reply may wait. Where it stands is spelled as it is declared.
+    fn frame(&self, frame: &Frame, reply: Option<&Value>) -> Made<FrameState> {
+        let (setting, body) = (self.setting, frame.body);
         let name = &setting.function(body).ok_or(OutOfMemory)?.name;
         Ok(FrameState::Running {
-            instance: running.instance,
+            instance: frame.instance,
             at: BodyPlace {
                 script: body.script(),
                 state: Text::try_from_bytes(self.alloc, setting.state_name(body))?,
                 function: Text::try_from_bytes(self.alloc, name.as_bytes())?,
                 kind: body.kind(),
             },
-            instruction: u16::try_from(running.place).ok().ok_or(OutOfMemory)?,
-            slots: copies(self.alloc, &running.slots)?,
-            reply: match &running.reply {
+            instruction: u16::try_from(frame.place).ok().ok_or(OutOfMemory)?,
+            slots: copies(self.alloc, &frame.slots)?,
+            reply: match reply {
                 Some(value) => Some(value.try_clone(self.alloc)?),
                 None => None,
             },

@@ -5,21 +5,20 @@ ghost use Rattle.std.specs.Prelude.{◌≡◌, ◌↔◌, ◌+◌, ◌<◌, ◌�
 ghost use Rattle.std.specs.Option.{ForSome};
 ghost use Rattle.lock_queue.specs.declared.seat.Seat.TheVariants.{Resting};
 ghost use Rattle.lock_queue.specs.LockTable.{seat_of, waits_for, is_ready, ready_after, start_after};
+ghost use Rattle.script_meaning.specs.Locks.{same_instance};
 ghost use Rattle.stack_machine.specs.Moves.{AddsSome, AreWakes, Begins, Noted, Takes};
 ghost use Rattle.stack_machine.specs.Threads.{GoesToWait, HasGrown, IsOn, IsSameSize, due_after, let_go, put_to_sleep, taken};
 
 use crate::moves::{MoveSink, note_any};
-use crate::natives::Performed;
-use crate::run::RunEnd;
 use crate::status::Status;
-use body_runner::{Call, CallWay, FRAME_LIMIT, Frame, Stack};
-use core_tree::Value;
+use body_runner::{Call, FRAME_LIMIT, Stack};
 use latent_natives::Sleepers;
 use lock_queue::Locks;
 use papy_base::Made;
 use run_replay::{LockMove, StackPlace};
 use std::alloc::Global;
 use std::marker::Model;
+use std::mem;
 
 /// The most frames of all stacks beyond the first of each.
 pub const ALL_FRAMES: u16 = 512;
@@ -85,67 +84,52 @@ impl Threads {
     }
 
     /// Starts a stack, which waits for the instance of its first call.
-    pub fn start(&mut self, alloc: Global, first: Frame) -> Made<LockMove>
+    pub fn start(&mut self, alloc: Global, call: Call) -> Made<LockMove>
         requires { self.old.started < self.old.room }
         ensures grown { HasGrown self.old self.new }
         ensures by_one { OnOk result (self.new.started ≡ self.old.started + 1) }
         ensures moved { IfOk result (Begins self.old.started) }
     {
-        let stack = self.count();
-        let frames = vec![in alloc; first]?;
-        self.stacks.push(Stack { frames })?;
-        Ok(self.go_on(stack))
+        let (stack, instance) = (self.count(), call.instance);
+        let below = Vec::new(alloc);
+        self.stacks.push(Stack::ToEnter { call, below })?;
+        Ok(self.go_on(stack, instance))
     }
 
     /// The instance of a stack's innermost frame.
     pub fn instance_of(&self, stack: u16) -> Option<u16> {
-        self.stack(stack)?.frames.last()?.instance()
+        self.stack(stack)?.instance()
     }
 
-    /// Whether a stack may push a further frame.
+    /// Whether a stack may have one more frame.
     pub fn has_room(&self, stack: u16) -> bool {
         self.extra < ALL_FRAMES
             && self
                 .stack(stack)
-                .is_some_and(|found| found.frames.len() < FRAME_LIMIT)
+                .is_some_and(|found| usize::from(depth_of(found)) + 1 < FRAME_LIMIT)
     }
 
-    // Pushes a frame.
-    fn push(&mut self, stack: u16, frame: Frame) -> Made<()>
-        ensures { IsSameSize self.old self.new }
+    /// Takes a stack's frames out for its turn.
+    pub fn take_frames(&mut self, stack: u16) -> Stack
+        requires { stack < self.old.started }
+        ensures size { IsSameSize self.old self.new }
+        ensures locks { self.new.locks ≡ self.old.locks }
+        ensures sleepers { self.new.sleepers ≡ self.old.sleepers }
     {
-        let Some(found) = self.stacks.get_mut(usize::from(stack)) else {
-            drop(frame);
-            return Ok(());
-        };
-        if !found.frames.is_empty() {
-            self.extra = self.extra.saturating_add(1);
-        }
-        found.frames.push(frame)?;
-        Ok(())
+        let frames = mem::replace(&mut self.stacks[usize::from(stack)], Stack::Done);
+        self.extra = self.extra.saturating_sub(depth_of(&frames));
+        frames
     }
 
-    // Takes the innermost frame away.
-    fn pop(&mut self, stack: u16) -> Option<Frame>
-        ensures { IsSameSize self.old self.new }
+    /// Puts a stack's frames back, as its turn has left them.
+    pub fn put_frames(&mut self, stack: u16, frames: Stack)
+        requires { stack < self.old.started }
+        ensures size { IsSameSize self.old self.new }
+        ensures locks { self.new.locks ≡ self.old.locks }
+        ensures sleepers { self.new.sleepers ≡ self.old.sleepers }
     {
-        let found = self.stacks.get_mut(usize::from(stack))?;
-        let frame = found.frames.pop();
-        if !found.frames.is_empty() {
-            self.extra = self.extra.saturating_sub(1);
-        }
-        frame
-    }
-
-    // Hands the innermost frame, which is a running one, the reply to its act.
-    fn reply(&mut self, stack: u16, value: Value)
-        ensures { IsSameSize self.old self.new }
-    {
-        if let Some(found) = self.stacks.get_mut(usize::from(stack)) {
-            if let Some(Frame::Running(running)) = found.frames.last_mut() {
-                running.reply = Some(value);
-            }
-        }
+        self.extra = self.extra.saturating_add(depth_of(&frames));
+        self.stacks[usize::from(stack)] = frames;
     }
 
     /// The stack that gets the next turn of a round.
@@ -261,9 +245,9 @@ impl Threads {
         }
     }
 
-    /// Lets a resting stack that has started wait for the instance of its innermost frame, or run free. It gives the
-    /// stack's move, none where the stack stays.
-    pub fn go_to_wait(&mut self, stack: u16) -> Option<LockMove>
+    /// Lets a resting stack that has started wait for an instance, or run free where there is none. It gives the stack's move,
+    /// none where the stack stays.
+    pub fn go_to_wait(&mut self, stack: u16, instance: Option<u16>) -> Option<LockMove>
         ensures size { IsSameSize self.old self.new }
         ensures locks { stack < self.old.started → GoesToWait self.old.locks self.new.locks stack (seat_of self.old.locks stack) }
         ensures others { self.old.started ≤ stack → self.new.locks ≡ self.old.locks }
@@ -274,11 +258,11 @@ impl Threads {
         if stack >= self.count() || !self.is_resting(stack) {
             return None;
         }
-        Some(self.go_on(stack))
+        Some(self.go_on(stack, instance))
     }
 
-    // A resting stack waits for the instance of its innermost frame, or runs free.
-    fn go_on(&mut self, stack: u16) -> LockMove
+    // A resting stack waits for an instance, or runs free.
+    fn go_on(&mut self, stack: u16, instance: Option<u16>) -> LockMove
         requires started { stack < self.old.started }
         requires rests { seat_of self.old.locks stack ≡ Resting }
         ensures size { IsSameSize self.old self.new }
@@ -286,7 +270,7 @@ impl Threads {
         ensures sleepers { self.new.sleepers ≡ self.old.sleepers }
         ensures moved { Begins stack result }
     {
-        match self.instance_of(stack) {
+        match instance {
             Some(instance) if instance < self.instances => {
                 self.locks.join(stack, instance);
                 LockMove::Join(stack, instance)
@@ -308,19 +292,43 @@ impl Threads {
             && !self.is_ready(stack)
     }
 
-    /// Lets a resting stack sleep for so many turns, or with 0 wait at once.
-    pub fn rest(&mut self, stack: u16, turn: u32, latency: u32)
+    /// Lets a stack rest after a native that isn't prompt: it lets go, and sleeps for so many turns, or with 0 waits at once for the
+    /// instance of its frame.
+    pub fn rest(&mut self, stack: u16, turn: u32, latency: u32, instance: Option<u16>)
         ensures size { IsSameSize self.old self.new }
         ensures awake { latency ≡ 0 → self.new.sleepers ≡ self.old.sleepers }
         ensures asleep { 0 < latency → self.new.sleepers ≡ put_to_sleep self.old.sleepers stack (due_after turn latency) }
-        ensures locks { 0 < latency → self.new.locks ≡ self.old.locks }
+        ensures locks { 0 < latency → self.new.locks ≡ let_go self.old.locks stack (seat_of self.old.locks stack) }
     {
+        self.let_go(stack);
         if latency == 0 {
-            self.go_to_wait(stack);
+            self.go_to_wait(stack, instance);
             return;
         }
         let until = turn.saturating_add(1).saturating_add(latency);
         self.sleep(stack, until);
+    }
+
+    /// Lets a stack in its turn go over from a frame on one instance to a frame on another: the lock is kept where they are the same.
+    pub fn go_over(&mut self, stack: u16, from: Option<u16>, to: Option<u16>)
+        ensures size { IsSameSize self.old self.new }
+        ensures sleepers { self.new.sleepers ≡ self.old.sleepers }
+    {
+        if is_same(from, to) {
+            return;
+        }
+        self.let_go(stack);
+        self.go_to_wait(stack, to);
+    }
+
+    /// Lets a stack in its turn end, since its first call has returned.
+    pub fn end(&mut self, stack: u16)
+        ensures size { IsSameSize self.old self.new }
+        ensures locks { self.new.locks ≡ let_go self.old.locks stack (seat_of self.old.locks stack) }
+        ensures sleepers { self.new.sleepers ≡ self.old.sleepers }
+    {
+        self.let_go(stack);
+        self.done = self.done.saturating_add(1);
     }
 
     /// Lets the sleepers that are due at a turn wait, in order of stack number.
@@ -332,15 +340,16 @@ impl Threads {
             let Some(stack) = self.sleepers.due(turn) else {
                 break;
             };
-            note_any(self.go_to_wait(stack), notes)?;
+            let instance = self.instance_of(stack);
+            let moved = self.go_to_wait(stack, instance);
+            note_any(moved, notes)?;
         }
         Ok(())
     }
 
     /// Whether a stack's first call has returned.
     pub fn is_done(&self, stack: u16) -> bool {
-        self.stack(stack)
-            .is_none_or(|found| found.frames.is_empty())
+        self.stack(stack).is_none_or(|found| found.is_done())
     }
 
     // ---- what a state of a run tells of stacks, and takes from them
@@ -361,15 +370,14 @@ impl Threads {
         }
     }
 
-    /// Adds a stack of these frames, which rests. It is done where it has no frame.
-    pub fn add(&mut self, frames: Vec<Frame>) -> Made<()>
+    /// Adds a stack, which rests.
+    pub fn add(&mut self, stack: Stack) -> Made<()>
         requires { self.old.started < self.old.room }
         ensures size { (self.new.instances ≡ self.old.instances) × (self.new.room ≡ self.old.room) }
         ensures started { OnOk result (self.new.started ≡ self.old.started + 1) }
     {
-        let (extra, is_done) = (frames.len().saturating_sub(1), frames.is_empty());
-        self.stacks.push(Stack { frames })?;
-        let extra = u16::try_from(extra).unwrap_or(u16::MAX);
+        let (extra, is_done) = (depth_of(&stack), stack.is_done());
+        self.stacks.push(stack)?;
         self.extra = self.extra.saturating_add(extra);
         if is_done {
             self.done = self.done.saturating_add(1);
@@ -388,89 +396,20 @@ impl Threads {
         }
         self.sleepers.rest(stack, until);
     }
-
-    // ---- what the acts of stacks do to their frames and their locks
-
-    /// Does the act that ended a stack's turn.
-    pub fn act(&mut self, stack: u16, turn: u32, ending: RunEnd) -> Made<()>
-        ensures { IsSameSize self.old self.new }
-    {
-        match ending {
-            RunEnd::Pass => Ok(()),
-            RunEnd::Called(call) => self.call(stack, call),
-            RunEnd::Performed { reply, latency } => {
-                self.rest_after_native(stack, turn, reply, latency);
-                Ok(())
-            }
-            RunEnd::Returned(Performed { reply, rest }) => {
-                let instance = self.instance_of(stack);
-                drop(self.pop(stack));
-                match rest {
-                    Some(latency) => self.rest_after_native(stack, turn, reply, latency),
-                    None => self.return_from(stack, instance, reply),
-                }
-                Ok(())
-            }
-        }
-    }
-
-    // A call that needs a frame. The stack keeps its lock where the call is on the frame's own instance, and a global function
-    // runs free.
-    fn call(&mut self, stack: u16, call: Call) -> Made<()>
-        ensures { IsSameSize self.old self.new }
-    {
-        let is_own = match call.way {
-            CallWay::Global(_) => false,
-            CallWay::Parent { .. } => true,
-            CallWay::Method(_) | CallWay::Get(_) | CallWay::Set(_) => {
-                self.instance_of(stack) == call.instance
-            }
-        };
-        self.push(stack, Frame::Pending(call))?;
-        if !is_own {
-            self.let_go(stack);
-            self.go_to_wait(stack);
-        }
-        Ok(())
-    }
-
-    // Hands the frame that is now innermost what a native that isn't prompt gave, and lets the stack rest.
-    fn rest_after_native(&mut self, stack: u16, turn: u32, reply: Value, latency: u32)
-        ensures { IsSameSize self.old self.new }
-    {
-        self.let_go(stack);
-        self.reply(stack, reply);
-        self.rest(stack, turn, latency);
-    }
-
-    // Returns a value from a frame of this instance, which was popped, to its caller.
-    fn return_from(&mut self, stack: u16, instance: Option<u16>, value: Value)
-        ensures { IsSameSize self.old self.new }
-    {
-        if self.is_done(stack) {
-            drop(value);
-            self.let_go(stack);
-            self.done = self.done.saturating_add(1);
-            return;
-        }
-        self.reply(stack, value);
-        if instance.is_none() || self.instance_of(stack) != instance {
-            self.let_go(stack);
-            self.go_to_wait(stack);
-        }
-    }
 }
 
-impl Threads {
-    ghost use Rattle.std.specs.Borrow.{LendsIf, sem};
-    ghost use Rattle.body_runner.specs.contracts.frame.Stack.{the_row as stack_row};
-    ghost use Rattle.stack_machine.specs.contracts.threads.Threads.{the_row};
+// How many frames are below the innermost one.
+fn depth_of(stack: &Stack) -> u16 {
+    u16::try_from(stack.below().len()).unwrap_or(u16::MAX)
+}
 
-    /// The frames of a stack, of which the innermost one may be changed.
-    pub fn stack_mut(&mut self, stack: u16) -> Option<&mut Stack>
-        ensures* writes_back { sem 𝓛 (LendsIf the_row stack_row self.entry result (λ w. self.old) self.old) }
-    {
-        self.stacks.get_mut(usize::from(stack))
+// Whether two frames are on one instance.
+fn is_same(from: Option<u16>, to: Option<u16>) -> bool
+    ensures { result ≡ same_instance from to }
+{
+    match (from, to) {
+        (Some(a), Some(b)) => a == b,
+        _ => false,
     }
 }
 

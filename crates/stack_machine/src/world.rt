@@ -13,12 +13,13 @@ ghost use Rattle.stack_machine.specs.Written.{WritesLines};
 
 use crate::moves::{MoveSink, moves_between, note_any};
 use crate::plan::{Plan, PlannedCall};
-use crate::run::run_innermost;
 use crate::status::{TurnEnd, TurnFault};
 use crate::threads::Threads;
-use body_runner::{Call, CallWay, Frame, Setting, Store, Turn, copies};
+use crate::turns::in_turn;
+use body_runner::{Call, CallWay, Setting, Store, Turn, copies};
 use core_tree::{Scene, TurnOrder};
 use latent_natives::Device;
+use machine_state::Way;
 use papy_base::Made;
 use papy_io::Sink;
 use run_replay::{LockMove, StackPlace};
@@ -81,6 +82,7 @@ impl World {
         devices: &mut Vec<Box<dyn Device>>,
         notes: &mut N,
     ) -> Result<(), TurnFault>
+        requires { turn.now.stack < self.old.threads.started }
         ensures appended { WritesLines result (S.written sink.old) (S.written sink.new) }
         ensures count { CountsTurn result (S.faults sink.old) (S.faults sink.new) }
         ensures kinds { SameKinds (map (λ d. device_state d) devices.old.items) (map (λ d. device_state d) devices.new.items) }
@@ -113,24 +115,31 @@ impl World {
         notes.note(arrival)
     }
 
-    // Runs the stack up to the act that ends the turn, and does that act.
+    // The stack's frames are taken out, have their turn, and are put back.
     fn run_stack<S: Sink>(
         &mut self,
         turn: &Turn<'_>,
         sink: &mut S,
         devices: &mut Vec<Box<dyn Device>>,
     ) -> Result<(), TurnFault>
+        requires { turn.now.stack < self.old.threads.started }
         ensures appended { WritesLines result (S.written sink.old) (S.written sink.new) }
         ensures count { CountsTurn result (S.faults sink.old) (S.faults sink.new) }
         ensures kinds { SameKinds (map (λ d. device_state d) devices.old.items) (map (λ d. device_state d) devices.new.items) }
         ensures size { IsSameSize self.old.threads self.new.threads }
     {
         let has_room = self.threads.has_room(turn.stack);
-        let Some(stack) = self.threads.stack_mut(turn.stack) else {
-            return Ok(());
-        };
-        let ending = run_innermost(turn, &mut self.store, stack, has_room, sink, devices)?;
-        self.threads.act(turn.stack, turn.number, ending)?;
+        let frames = self.threads.take_frames(turn.stack);
+        let frames = in_turn(
+            turn,
+            &mut self.threads,
+            &mut self.store,
+            has_room,
+            frames,
+            sink,
+            devices,
+        )?;
+        self.threads.put_frames(turn.stack, frames);
         Ok(())
     }
 }
@@ -194,13 +203,20 @@ fn start(
 {
     let call = &setting.scene.calls[planned.number];
     let arguments = copies(alloc, &call.arguments)?;
-    let first = Frame::Pending(Call {
-        instance: Some(call.instance),
-        way: CallWay::Method(planned.name.unwrap_or(0)),
-        arguments,
-        kept: None,
-    });
-    threads.start(alloc, first)
+    let way = match planned.name {
+        Some(name) => CallWay::Method(name),
+        None => CallWay::Missing,
+    };
+    let kept = Some(Way::Method(call.function.try_clone(alloc)?));
+    threads.start(
+        alloc,
+        Call {
+            instance: Some(call.instance),
+            way,
+            arguments,
+            kept,
+        },
+    )
 }
 
 // The stack that gets this turn, none where the turn is idle.

@@ -1,7 +1,7 @@
 use Rattle.std.proofs.Common.{◌≡◌, map}
 use Rattle.latent_natives.specs.Devices.{SameKinds}
 use Rattle.stack_machine.specs.Written.{AppendsLines}
-use Rattle.stack_machine.proofs.run.run_body.Given as goal
+use Rattle.stack_machine.proofs.run.run_on.Given as goal
 
 abbrev pub invariant-loop : goal.invariant-loop
 invariant-loop g l =

@@ -1,7 +1,7 @@
 use Rattle.std.proofs.Common.{◌∙◌}
 use Rattle.std.proofs.lemmas.Result.{err_from_is_err_and}
 use Rattle.stack_machine.proofs.Sinks.{fault_behind_lines, lines_before, lines_more}
-use Rattle.stack_machine.proofs.run.run_body.Goals as goal
+use Rattle.stack_machine.proofs.run.run_on.Goals as goal
 
 pub returns-in_err-halt-clause-appended : goal.returns-in_err-halt-clause-appended
 returns-in_err-halt-clause-appended g c =
