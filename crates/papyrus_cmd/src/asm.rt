@@ -1,14 +1,16 @@
 //! The command that writes the compiled file of a listing.
-ghost use Rattle.std.specs.Prelude.{◌≡◌, ◌≢◌, ◌≤◌, length, map, take, IfOk};
+ghost use Rattle.std.specs.Prelude.{◌≡◌, ◌≢◌, ◌≤◌, ℕ, List, Some, length, map, take, IfOk};
 ghost use Rattle.std.specs.String.{string_bytes};
 ghost use Rattle.papy_io.specs.Activity.{Idle};
+ghost use Rattle.papy_io.specs.Files.{Files, told_bytes};
 ghost use Rattle.pex_codec.specs.Spells.{Spells};
 ghost use Rattle.pex_values.specs.Fit.{Fits};
 ghost use Rattle.pex_values.specs.Plain.{plain};
 ghost use Rattle.pex_values.specs.Shape.{IsWellShaped};
 ghost use Rattle.command_files.specs.Outputs.{AnswersTo, EndsUnprinted};
 ghost use Rattle.papyrus_cmd.specs.Answers.{AsmAnswers};
-ghost use Rattle.papyrus_cmd.specs.Asm.{AsmLeaves, Assembles, IsAssembled, ReadsListing, SpellsValue};
+ghost use Rattle.papyrus_cmd.specs.Asm.{AsmLeaves, Assembles, IsAssembled, ReadsListing, SpellsValue, Writes};
+ghost use Rattle.papyrus_cmd.specs.Show.{Lists};
 ghost use Rattle.command_files.specs.Ending.{CountsReads, CountsWrites, IsWordBelow, MissesScript, word_at};
 ghost use Rattle.command_files.specs.FileFault.{CountsFile, MissesFile};
 
@@ -113,3 +115,9 @@ pub fn asm<D: Desk>(alloc: Global, files: &[String], desk: &mut D) -> Ending
         Err(fault) => Ending::from(fault),
     }
 }
+
+/// `asm` undoes `show`: where a text is the listing of a file, what `asm` writes of that text are the bytes of that file.
+pub fn asm_writes_a_listed_file_again()
+    ensures { (source name bytes text : List ℕ) (old new : Files) → Lists bytes text → told_bytes (Some old) source ≡ Some text
+        → Writes source name (Some old) (Some new) → told_bytes (Some new) name ≡ Some bytes }
+{}

@@ -15,4 +15,5 @@ mod upgrade;
 mod waits;
 mod written;
 
+pub use asm::asm_writes_a_listed_file_again;
 pub use top::papyrus;
