@@ -7,9 +7,9 @@ ghost use Rattle.lock_queue.specs.LockTable.{start_after};
 ghost use Rattle.script_meaning.specs.Locks.{ends, goes_to_wait, is_ready, let_go, sleeps, stack_of, takes, waited_for};
 ghost use Rattle.script_meaning.specs.Report.{due_of};
 ghost use Rattle.run_laws.specs.Exclusive.{is_number};
-ghost use Rattle.script_meaning.specs.Turns.{round};
+ghost use Rattle.script_meaning.specs.Turns.{all_done, round};
 ghost use Rattle.script_meaning.specs.World.{World};
-ghost use Rattle.stack_places.specs.Places.{IsAway, IsReady, Moves, NobodyStands, Runs, TakesDue, placed};
+ghost use Rattle.stack_places.specs.Places.{IsAway, IsReady, Moves, NobodyStands, Runs, TakesDue, placed, standings};
 
 use latent_natives::Sleepers;
 use lock_queue::Locks;
@@ -129,6 +129,15 @@ impl Places {
         ensures { result ≡ length self.now.lists.done }
     {
         self.done_count
+    }
+
+    /// Whether all of so many stacks that have started are done.
+    pub fn are_all_done(&self, started: u16) -> bool
+        requires once { (k : ℕ) → k < started → standings self.now.lists k ≤ 1 }
+        requires none_else { (k : ℕ) → started ≤ k → IsAway self.now.lists k }
+        ensures { (world : World) → world.started ≡ started → result ≡ all_done (placed self.now.lists world) }
+    {
+        self.done_count == started
     }
 
     /// Whether a stack is done.
