@@ -1,6 +1,6 @@
 -- What each call leaves, from what it leaves of locks, sleepers and stacks that are done.
-use Rattle.std.proofs.Common.{◌≡◌, ℕ, zero, suc, ◌+◌, ◌<◌, ◌≤◌, Bool, true, false, cond, List, [], ◌∷◌, ◌++◌, length, Option, Some, None, is_some, IsSome, refl, sym, ap, subst, ◌∙◌, arith, ◌⊎◌, inl, inr}
-use Rattle.std.specs.Prelude.{slice_index_or, slice_set, position, replicate}
+use Rattle.std.proofs.Common.{◌≡◌, ℕ, zero, suc, ◌+◌, ◌<◌, Bool, true, false, cond, List, [], ◌∷◌, ◌++◌, length, Option, Some, None, refl, sym, ap, subst, ◌∙◌, arith, ◌⊎◌, inl, inr}
+use Rattle.std.specs.Prelude.{slice_set, position, replicate}
 use Rattle.std.specs.List.{filter}
 use Rattle.script_meaning.specs.Turns.{is_due, not_due}
 use Rattle.std.proofs.lemmas.List.{length-replicate, length-set}
@@ -9,16 +9,16 @@ use Rattle.lock_queue.specs.declared.seat.Seat.{Seat}
 use Rattle.lock_queue.specs.declared.seat.Seat.TheVariants.{Resting, Free, Waits, Holds}
 use Rattle.lock_queue.specs.LockTable as table
 use Rattle.lock_queue.specs.LockTable.{LockTable, held_by, holds, may_take, seat_at, seat_of, waits_for, without_stack}
-use Rattle.script_meaning.specs.Locks.{ends, goes_to_wait, is_ready, let_go, sleeps, takes}
+use Rattle.script_meaning.specs.Locks.{ends, goes_to_wait, let_go, sleeps, takes}
 use Rattle.script_meaning.specs.World.{World}
 use Rattle.stack_places.specs.Lists.{is_free, is_true, numbers_of, owners_from, pair_of, pairs_from}
-use Rattle.stack_places.specs.Places.{IsAway, IsReady, Moves, NobodyStands, NoneIsDue, PlaceTable, Runs, TakesDue, TakesFirst, lists_of, table_of}
+use Rattle.stack_places.specs.Places.{IsAway, IsReady, Moves, NobodyStands, NoneIsDue, PlaceTable, Runs, TakesDue, TakesFirst, table_of}
 use Rattle.stack_places.proofs.Moving.{falls_asleep, is_ended, joins, lets_go, runs_free, takes_none, takes_one}
 use Rattle.stack_places.proofs.Numbers as numbers
 use Rattle.stack_places.proofs.Readiness.{ready_by_seat}
 use Rattle.stack_places.proofs.Seats.{by_place, nowhere}
-use Rattle.stack_places.proofs.Sleeping.{FirstDue, due_first, due_none}
-use Rattle.stack_places.proofs.Standing.{Agrees, has_seat, not_asleep, not_done, rests}
+use Rattle.stack_places.proofs.Sleeping.{due_first, due_none}
+use Rattle.stack_places.proofs.Standing.{Agrees, has_seat, not_done}
 
 module _ (locks : LockTable) (sleepers : List (Option ℕ)) (done : List Bool) where
   abbrev now : PlaceTable

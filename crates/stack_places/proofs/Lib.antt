@@ -3,6 +3,7 @@ pub mod Ending
 pub mod Finding
 pub mod Moving
 pub mod Numbers
+pub mod InTurn
 pub mod Readiness
 pub mod Round
 pub mod Seats

@@ -1,17 +1,17 @@
 -- The lists after a stack moved.
-use Rattle.std.proofs.Common.{◌≡◌, ℕ, zero, suc, ◌+◌, ◌<◌, ◌≤◌, Bool, true, false, not, cond, ◌&&◌, List, [], ◌∷◌, ◌++◌, length, Option, Some, None, is_none, refl, sym, ap, subst, ◌∙◌, arith, ⊎_elim}
-use Rattle.std.specs.Prelude.{slice_index_or, slice_set, position}
+use Rattle.std.proofs.Common.{◌≡◌, ℕ, ◌+◌, ◌<◌, Bool, true, false, ◌&&◌, List, [], ◌∷◌, ◌++◌, length, Option, Some, None, is_none, refl, sym, ap, ◌∙◌, arith}
+use Rattle.std.specs.Prelude.{slice_set}
 use Rattle.std.specs.List.{filter}
 use Rattle.lock_queue.specs.declared.seat.Seat.{Seat}
 use Rattle.lock_queue.specs.declared.seat.Seat.TheVariants.{Resting, Free, Waits, Holds}
 use Rattle.lock_queue.specs.LockTable.{LockTable, held_by, is_first, may_take, owner_of, pairs_if, queue_of, seat_of, waits_for, without_stack}
-use Rattle.script_meaning.specs.Locks.{ends, goes_to_wait, is_other, is_ready, let_go, second_is_other, sleeps, takes, waited_for, becomes_owner, with_number, with_pair}
+use Rattle.script_meaning.specs.Locks.{ends, goes_to_wait, is_other, let_go, second_is_other, sleeps, takes, waited_for, becomes_owner, with_number, with_pair}
 use Rattle.script_meaning.specs.World.{World}
-use Rattle.stack_places.specs.Lists.{is_free, is_true, numbers_of, owners_from, pairs_from}
-use Rattle.stack_places.specs.Places.{IsAway, Moved, PlaceLists, Runs, lists_of, placed}
+use Rattle.stack_places.specs.Lists.{is_free, is_true, numbers_of, pairs_from}
+use Rattle.stack_places.specs.Places.{IsAway, Moved, PlaceLists, lists_of, placed}
 use Rattle.stack_places.proofs.Numbers as numbers
 use Rattle.stack_places.proofs.Seats.{released, taken, unheld}
-use Rattle.stack_places.proofs.Standing.{Agrees, alone, has_seat, not_asleep, not_done, rests, waits_there}
+use Rattle.stack_places.proofs.Standing.{Agrees, alone, not_asleep, not_done, rests, waits_there}
 use Rattle.stack_places.proofs.Waiters.{left_without}
 
 -- worlds with the same lists are the same

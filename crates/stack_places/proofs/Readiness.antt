@@ -1,6 +1,5 @@
 -- A stack is ready by its seat exactly where it is ready by the lists, and so the stack that is found is the same.
-use Rattle.std.proofs.Common.{◌≡◌, ℕ, zero, suc, ◌+◌, ◌%◌, ◌<◌, ◌≤◌, Bool, true, false, not, cond, ◌&&◌, ◌||◌, List, [], ◌∷◌, length, map, Option, Some, None, is_some, is_none, refl, sym, ap, ◌∙◌, arith}
-use Rattle.std.specs.Prelude.{position}
+use Rattle.std.proofs.Common.{◌≡◌, ℕ, ◌+◌, ◌%◌, ◌<◌, ◌≤◌, Bool, true, false, not, cond, ◌&&◌, ◌||◌, List, [], ◌∷◌, length, map, Option, Some, None, is_some, is_none, refl, sym, ap, ◌∙◌, arith}
 use Rattle.std.specs.List.{find, list_any, range_with_len}
 use Rattle.std.proofs.Math.Dec.{eqb}
 use Rattle.lock_queue.specs.declared.seat.Seat.{Seat}
@@ -8,7 +7,7 @@ use Rattle.lock_queue.specs.declared.seat.Seat.TheVariants.{Resting, Free, Waits
 use Rattle.lock_queue.specs.LockTable as table
 use Rattle.lock_queue.specs.LockTable.{LockTable, held_by, is_first, may_take, numbers_from, owner_of, pairs_if, queue_of, seat_of, start_after, waits_for}
 use Rattle.run_laws.specs.Exclusive.{how_many, is_number}
-use Rattle.script_meaning.specs.Locks.{is_next, is_owned, is_ready, is_stack, second_is, stack_of, waited_for}
+use Rattle.script_meaning.specs.Locks.{is_next, is_ready, is_stack, second_is, stack_of, waited_for}
 use Rattle.script_meaning.specs.Turns.{round}
 use Rattle.script_meaning.specs.World.{World}
 use Rattle.stack_places.specs.Lists.{is_free, numbers_of, owners_from}

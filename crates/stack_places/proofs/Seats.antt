@@ -1,6 +1,6 @@
 -- The owners of instances after one seat changed, and how often a stack owns one.
 use Rattle.std.proofs.Common.{◌≡◌, ◌≢◌, ℕ, zero, suc, ◌+◌, ◌<◌, ◌≤◌, Bool, true, false, not, cond, List, [], ◌∷◌, ◌++◌, length, Option, Some, None, is_some, ◌||◌, refl, sym, ap, subst, ◌∙◌, arith}
-use Rattle.std.specs.Prelude.{slice_index_or, slice_set, nat_lt, position}
+use Rattle.std.specs.Prelude.{slice_set, position}
 use Rattle.std.specs.List.{filter, list_any, position_from}
 use Rattle.std.specs.Option.{option_map}
 use Rattle.std.proofs.lemmas.Bool.{eqb-true, eqb-false}
@@ -11,7 +11,7 @@ use Rattle.lock_queue.specs.declared.seat.Seat.{Seat}
 use Rattle.lock_queue.specs.declared.seat.Seat.TheVariants.{Resting, Free, Waits, Holds}
 use Rattle.lock_queue.specs.LockTable.{held_by, holds, seat_at}
 use Rattle.run_laws.specs.Exclusive.{how_many}
-use Rattle.script_meaning.specs.Locks.{is_other, second_is, second_is_other, stack_of, waited_for, with_pair}
+use Rattle.script_meaning.specs.Locks.{second_is, second_is_other, stack_of, waited_for, with_pair}
 use Rattle.stack_places.specs.Lists.{pair_of, owners_from}
 use Rattle.stack_places.proofs.Numbers.{less, not_less, over, under, itself, none_and}
 

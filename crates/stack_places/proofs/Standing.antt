@@ -1,20 +1,18 @@
 -- Where a stack stands by its seat, its sleep and whether it is done.
-use Rattle.std.proofs.Common.{◌≡◌, ℕ, zero, suc, ◌+◌, ◌<◌, ◌≤◌, Bool, true, false, not, cond, ◌&&◌, ◌||◌, List, [], ◌∷◌, ◌++◌, length, map, Option, Some, None, is_some, is_none, refl, sym, ap, subst, ◌∙◌, arith, ◌⊎◌, inl, inr}
-use Rattle.std.specs.Prelude.{slice_index_or, position}
-use Rattle.std.specs.List.{filter, list_any}
+use Rattle.std.proofs.Common.{◌≡◌, ℕ, ◌+◌, ◌<◌, ◌≤◌, Bool, true, false, cond, ◌||◌, List, [], ◌∷◌, length, Option, Some, None, is_some, refl, sym, ap, ◌∙◌, arith, ◌⊎◌, inl, inr}
+use Rattle.std.specs.Prelude.{slice_index_or}
+use Rattle.std.specs.List.{list_any}
 use Rattle.std.proofs.Math.Dec.{eqb}
 use Rattle.std.proofs.lemmas.Bool.{eqb-true}
 use Rattle.lock_queue.specs.declared.seat.Seat.{Seat}
 use Rattle.lock_queue.specs.declared.seat.Seat.TheVariants.{Resting, Free, Waits, Holds}
-use Rattle.lock_queue.specs.LockTable as table
-use Rattle.lock_queue.specs.LockTable.{LockTable, held_by, holds, is_first, may_take, owner_of, pairs_if, pairs_of, queue_of, seat_at, seat_of, waits_for}
+use Rattle.lock_queue.specs.LockTable.{LockTable, held_by, holds, owner_of, pairs_if, pairs_of, seat_of, waits_for}
 use Rattle.run_laws.specs.Exclusive.{how_many, is_number}
-use Rattle.script_meaning.specs.Locks.{is_next, is_owned, is_ready, is_stack, second_is, stack_of, waited_for}
-use Rattle.script_meaning.specs.World.{World}
+use Rattle.script_meaning.specs.Locks.{second_is, waited_for}
 use Rattle.stack_places.specs.Lists.{is_free, is_true, numbers_of, owners_from, pairs_from}
-use Rattle.stack_places.specs.Places.{IsAway, PlaceLists, Runs, lists_of, placed, standings}
+use Rattle.stack_places.specs.Places.{IsAway, Runs, lists_of}
 use Rattle.stack_places.proofs.Numbers as numbers
-use Rattle.stack_places.proofs.Seats.{HoldsAlone, owned, owns_none, owns_nothing, owns_some, owns_this}
+use Rattle.stack_places.proofs.Seats.{HoldsAlone, owns_none, owns_nothing, owns_some, owns_this}
 use Rattle.stack_places.proofs.Waiters as waiters
 
 -- what every lock table keeps

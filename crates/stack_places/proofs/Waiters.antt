@@ -1,11 +1,10 @@
 -- The one list of stacks that wait: who stands there, who is first, and what is left where one goes.
-use Rattle.std.proofs.Common.{◌≡◌, ℕ, zero, suc, ◌+◌, ◌<◌, ◌≤◌, Bool, true, false, not, cond, List, [], ◌∷◌, ◌++◌, length, map, Option, Some, None, refl, sym, ap, ◌∙◌, arith}
+use Rattle.std.proofs.Common.{◌≡◌, ℕ, ◌+◌, Bool, true, false, not, cond, List, [], ◌∷◌, length, map, Option, Some, None, refl, sym, ap, ◌∙◌, arith}
 use Rattle.std.specs.List.{filter}
 use Rattle.std.proofs.Math.Dec.{eqb}
-use Rattle.lock_queue.specs.LockTable.{LockTable, is_first, pairs_if, queue_of, without_stack}
+use Rattle.lock_queue.specs.LockTable.{is_first, pairs_if, without_stack}
 use Rattle.run_laws.specs.Exclusive.{how_many}
 use Rattle.script_meaning.specs.Locks.{is_stack, second_is, second_is_other, stack_of, waited_for}
-use Rattle.stack_places.proofs.Numbers.{none_and}
 
 pub counted : (k : ℕ) (ws : List (ℕ × ℕ)) → how_many (second_is k) ws ≡ length (filter (second_is k) ws)
 counted k [] = refl

@@ -4,7 +4,7 @@ use Rattle.std.specs.List.{filter}
 use Rattle.lock_queue.specs.LockTable.{LockTable}
 use Rattle.stack_places.specs.Lists.{is_free, is_true, numbers_of, owners_from, pairs_from}
 use Rattle.run_laws.specs.Exclusive.{how_many, is_number, first_is}
-use Rattle.script_meaning.specs.Locks.{second_is, is_ready}
+use Rattle.script_meaning.specs.Locks.{ends, is_ready, let_go, second_is}
 use Rattle.script_meaning.specs.Turns.{is_due, not_due}
 use Rattle.script_meaning.specs.World.{World}
 
@@ -54,6 +54,19 @@ pub record Moves (move : World → World) (old new : PlaceTable) : Type 0 where
   pub moved : Moved move old.lists new.lists
   pub instances : new.instances ≡ old.instances
   pub room : new.room ≡ old.room
+
+-- the same of a move that goes by the number of the turn
+abbrev pub MovedIn : ℕ → (World → World) → PlaceLists → PlaceLists → Type 0
+MovedIn turn move old new = (world : World) → world.turn ≡ turn → placed new world ≡ move (placed old world)
+
+pub record MovesIn (turn : ℕ) (move : World → World) (old new : PlaceTable) : Type 0 where
+  pub moved : MovedIn turn move old.lists new.lists
+  pub instances : new.instances ≡ old.instances
+  pub room : new.room ≡ old.room
+
+-- a stack lets go and is done
+abbrev pub finishes : ℕ → World → World
+finishes k world = ends k (let_go k world)
 
 -- how often a stack stands anywhere
 abbrev pub standings : PlaceLists → ℕ → ℕ

@@ -2,6 +2,8 @@
 //! the meaning of scripts gives a world.
 #![tactic(auto)]
 
+mod passing;
 mod places;
 
+pub use passing::ready_stack_runs;
 pub use places::Places;

@@ -1,6 +1,5 @@
-use Rattle.std.proofs.Common.{◌≡◌, ℕ, ◌<◌, ◌≤◌, length, sym, subst, ap, ◌∙◌}
-use Rattle.script_meaning.specs.Turns.{all_done}
-use Rattle.stack_places.specs.Places.{IsAway, PlaceTable, placed, standings}
+use Rattle.std.proofs.Common.{length, ap, ◌∙◌}
+use Rattle.stack_places.specs.Places.{PlaceTable}
 use Rattle.stack_places.proofs.Ending.{all_by_count}
 use Rattle.stack_places.proofs.places.Places.are_all_done.Goals as goal
 

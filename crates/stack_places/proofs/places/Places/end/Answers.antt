@@ -1,12 +1,11 @@
-use Rattle.std.proofs.Common.{◌≡◌, ℕ, ◌<◌, ◌≤◌, ◌+◌, ◌∷◌, length, Option, Some, None, suc, true, sym, subst, ap, ◌∙◌, arith, refl}
+use Rattle.std.proofs.Common.{◌≡◌, ◌<◌, length, true, sym, subst, ap, arith}
 use Rattle.std.specs.Prelude.{slice_set}
 use Rattle.std.proofs.lemmas.List.{length-set}
-use Rattle.lock_queue.specs.LockTable.{LockTable, held_by, seat_of, waits_for}
-use Rattle.script_meaning.specs.Locks.{ends, let_go, sleeps, takes}
+use Rattle.script_meaning.specs.Locks.{ends}
 use Rattle.stack_places.specs.Lists.{is_true, numbers_of}
-use Rattle.stack_places.specs.Places.{IsAway, IsReady, Moves, PlaceTable, Runs, TakesDue, table_of}
-use Rattle.stack_places.proofs.Standing.{Agrees, not_asleep, rests}
-use Rattle.stack_places.proofs.Calls.{joined, freed, may, took, took_none, let_gone, is_free_there, slept, ended, one_more, woken}
+use Rattle.stack_places.specs.Places.{IsAway, Moves, PlaceTable, table_of}
+use Rattle.stack_places.proofs.Standing.{Agrees}
+use Rattle.stack_places.proofs.Calls.{ended, one_more}
 use Rattle.stack_places.proofs.Numbers.{at_most}
 use Rattle.stack_places.proofs.places.Places.end.Goals as goal
 

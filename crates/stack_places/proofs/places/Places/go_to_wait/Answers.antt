@@ -1,9 +1,9 @@
-use Rattle.std.proofs.Common.{◌≡◌, ℕ, ◌<◌, ◌≤◌, ◌+◌, length, Option, Some, None, sym, subst, ap, ◌∙◌, arith, refl}
-use Rattle.lock_queue.specs.LockTable.{LockTable, held_by, seat_of, waits_for}
+use Rattle.std.proofs.Common.{◌<◌, sym, subst, ap}
+use Rattle.lock_queue.specs.LockTable.{held_by, waits_for}
 use Rattle.script_meaning.specs.Locks.{goes_to_wait}
-use Rattle.stack_places.specs.Places.{IsAway, IsReady, Moves, PlaceTable, Runs, TakesDue, table_of}
+use Rattle.stack_places.specs.Places.{IsAway, Moves, PlaceTable, table_of}
 use Rattle.stack_places.proofs.Standing.{Agrees, rests}
-use Rattle.stack_places.proofs.Calls.{joined, freed, may, took, took_none, let_gone, is_free_there, slept, ended, one_more, woken}
+use Rattle.stack_places.proofs.Calls.{joined, freed}
 use Rattle.stack_places.proofs.places.Places.go_to_wait.Goals as goal
 
 pub join-requires-clause-idle : goal.join-requires-clause-idle

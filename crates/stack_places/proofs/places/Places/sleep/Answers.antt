@@ -1,12 +1,8 @@
-use Rattle.std.proofs.Common.{◌≡◌, ℕ, ◌<◌, ◌≤◌, ◌+◌, ◌∷◌, length, Option, Some, None, suc, true, sym, subst, ap, ◌∙◌, arith, refl}
-use Rattle.std.specs.Prelude.{slice_set}
-use Rattle.lock_queue.specs.LockTable.{LockTable, held_by, seat_of, waits_for}
-use Rattle.script_meaning.specs.Locks.{ends, let_go, sleeps, takes}
-use Rattle.stack_places.specs.Lists.{is_true, numbers_of}
-use Rattle.stack_places.specs.Places.{IsAway, IsReady, Moves, PlaceTable, Runs, TakesDue, table_of}
-use Rattle.stack_places.proofs.Standing.{Agrees, not_asleep, rests}
-use Rattle.stack_places.proofs.Calls.{joined, freed, may, took, took_none, let_gone, is_free_there, slept, ended, one_more, woken}
-use Rattle.stack_places.proofs.Numbers.{at_most}
+use Rattle.std.proofs.Common.{◌<◌, sym, subst}
+use Rattle.script_meaning.specs.Locks.{sleeps}
+use Rattle.stack_places.specs.Places.{IsAway, Moves, PlaceTable, table_of}
+use Rattle.stack_places.proofs.Standing.{Agrees, not_asleep}
+use Rattle.stack_places.proofs.Calls.{slept}
 use Rattle.stack_places.proofs.places.Places.sleep.Goals as goal
 
 pub rest-requires-clause-awake : goal.rest-requires-clause-awake

@@ -1,12 +1,9 @@
-use Rattle.std.proofs.Common.{◌≡◌, ℕ, ◌<◌, ◌≤◌, ◌+◌, ◌∷◌, length, Option, Some, None, suc, true, sym, subst, ap, ◌∙◌, arith, refl}
-use Rattle.std.specs.Prelude.{slice_set}
-use Rattle.lock_queue.specs.LockTable.{LockTable, held_by, seat_of, waits_for}
-use Rattle.script_meaning.specs.Locks.{ends, let_go, sleeps, takes}
-use Rattle.stack_places.specs.Lists.{is_true, numbers_of}
-use Rattle.stack_places.specs.Places.{IsAway, IsReady, Moves, PlaceTable, Runs, TakesDue, table_of}
+use Rattle.std.proofs.Common.{◌<◌, sym, subst, ◌∙◌}
+use Rattle.lock_queue.specs.LockTable.{seat_of}
+use Rattle.script_meaning.specs.Locks.{takes}
+use Rattle.stack_places.specs.Places.{IsReady, Moves, PlaceTable, table_of}
 use Rattle.stack_places.proofs.Standing.{Agrees, not_some, waits_so}
-use Rattle.stack_places.proofs.Calls.{joined, freed, may, took, took_none, let_gone, is_free_there, slept, ended, one_more, woken}
-use Rattle.stack_places.proofs.Numbers.{at_most}
+use Rattle.stack_places.proofs.Calls.{may, took, took_none}
 use Rattle.stack_places.proofs.places.Places.take.Goals as goal
 
 pub take-requires-clause-first : goal.take-requires-clause-first
