@@ -10,3 +10,4 @@ pub mod Seats
 pub mod Sleeping
 pub mod Standing
 pub mod Waiters
+pub mod Woken

@@ -4,6 +4,8 @@
 
 mod passing;
 mod places;
+mod waking;
 
 pub use passing::ready_stack_runs;
 pub use places::Places;
+pub use waking::{Stacks, wake_all};
