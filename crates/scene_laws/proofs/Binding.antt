@@ -203,7 +203,7 @@ module _ (outlines : List OutlineScript) (fits : OutlineFits outlines) where
   pub natives_fit : (devices : ℕ) (natives : List BoundNative) → AreBoundNatives outlines devices natives → NativesFit (shapes outlines) natives
   natives_fit devices natives b at h =
       let f = native_found at (slice_get outlines at.script) refl h in
-      let few = fits.functions at.script at.place f.1 (ap (λ o. slice_get (members.functions_in o) at.place) f.2 ∙ f.3) in
+      let few = fits.functions at.script at.place f.1 (ap (λ o. slice_get (members.functions_in o) at.place) f.2 ∙ f.3) f.4 in
       let small = get_at outlines at.script f.0 f.0 f.2 in
       let listed = script_in_places at 0 outlines at.script f.0 f.1 f.2 (omega arith) (omega (arith, small.0, fits.scripts)) f.3 f.4 few in
       bound_in devices at natives b.allowed (ap (list_any (here at)) b.each_once ∙ listed)

@@ -1,5 +1,5 @@
 -- What the types of a scene rest on, of a set of scripts.
-use Rattle.std.specs.Prelude.{◌≡◌, ℕ, ◌<◌, List, [], ◌∷◌, length, map, Some, slice_get}
+use Rattle.std.specs.Prelude.{◌≡◌, ℕ, ◌<◌, List, [], ◌∷◌, length, map, true, Some, slice_get}
 use Rattle.core_tree.specs.declared.outline.OutlineFunction.{OutlineFunction}
 use Rattle.core_tree.specs.declared.outline.OutlineProperty.{OutlineProperty}
 use Rattle.core_tree.specs.declared.outline.OutlineScript.{OutlineScript}
@@ -17,6 +17,11 @@ use Rattle.run_laws.specs.TypedCode.{MethodMeets}
 abbrev pub shapes : List OutlineScript → List ScriptShape
 shapes outlines = map script_shape outlines
 
+-- places of native functions in an empty state have 16 bits
+abbrev pub NativesHavePlaces : List OutlineScript → Type 0
+NativesHavePlaces outlines =
+    (script place : ℕ) (function : OutlineFunction) → IsFunctionAt outlines script place function → function.is_native ≡ true → place < 65536
+
 pub record OutlineFits (outlines : List OutlineScript) : Type 0 where
   -- no script is above itself
   pub above : (script : ℕ) (shape : ScriptShape) → slice_get (shapes outlines) script ≡ Some shape → lineage (shapes outlines) (Some script) ≡ script ∷ lineage (shapes outlines) shape.parent
@@ -24,9 +29,9 @@ pub record OutlineFits (outlines : List OutlineScript) : Type 0 where
   pub initial : (script : ℕ) → HaveTypes (known (shapes outlines) [] []) (typed (variable_kinds (slice_get (shapes outlines) script))) (initial_in (slice_get (shapes outlines) script))
   -- the variable of an Auto property has the property's type
   pub properties : (script : ℕ) (property : OutlineProperty) → HasProperty outlines script property → IsVariable (shapes outlines) script property.variable property.kind
-  -- numbers of scripts, and places of functions in an empty state, have 16 bits
+  -- numbers of scripts have 16 bits
   pub scripts : length outlines < 65536
-  pub functions : (script place : ℕ) (function : OutlineFunction) → IsFunctionAt outlines script place function → place < 65536
+  pub functions : NativesHavePlaces outlines
 
 -- a function of an empty state has its parameters and its result in every state
 abbrev pub Offers : List OutlineScript → List Script → Type 0
