@@ -1,4 +1,5 @@
 pub mod Calls
+pub mod Chosen
 pub mod Ending
 pub mod Finding
 pub mod Moving

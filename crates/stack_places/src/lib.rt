@@ -2,6 +2,7 @@
 //! the meaning of scripts gives a world.
 #![tactic(auto)]
 
+mod choosing;
 mod passing;
 mod places;
 mod waking;
