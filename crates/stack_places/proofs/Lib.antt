@@ -1,10 +1,11 @@
+pub mod AllDone
 pub mod Calls
 pub mod Chosen
-pub mod Ending
 pub mod Finding
+pub mod InTurn
+pub mod Left
 pub mod Moving
 pub mod Numbers
-pub mod InTurn
 pub mod Readiness
 pub mod Round
 pub mod Seats

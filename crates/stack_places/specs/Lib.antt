@@ -1,3 +1,4 @@
+pub mod Ending
 pub mod Lists
 pub mod Places
 pub mod Waking

@@ -3,6 +3,7 @@
 #![tactic(auto)]
 
 mod choosing;
+mod ending;
 mod passing;
 mod places;
 mod waking;

@@ -1,6 +1,6 @@
 use Rattle.std.proofs.Common.{length, ap, ◌∙◌}
 use Rattle.stack_places.specs.Places.{PlaceTable}
-use Rattle.stack_places.proofs.Ending.{all_by_count}
+use Rattle.stack_places.proofs.AllDone.{all_by_count}
 use Rattle.stack_places.proofs.places.Places.are_all_done.Goals as goal
 
 pub returns : goal.returns
