@@ -18,7 +18,7 @@ use Rattle.stack_places.proofs.Numbers as numbers
 use Rattle.stack_places.proofs.Readiness.{ready_by_seat}
 use Rattle.stack_places.proofs.Seats.{by_place, nowhere}
 use Rattle.stack_places.proofs.Sleeping.{due_first, due_none}
-use Rattle.stack_places.proofs.Standing.{Agrees, has_seat, not_done}
+use Rattle.stack_places.proofs.Standing.{Agrees, has_seat, not_done, some_world}
 
 module _ (locks : LockTable) (sleepers : List (Option ℕ)) (done : List Bool) where
   abbrev now : PlaceTable
@@ -39,9 +39,7 @@ module _ (locks : LockTable) (sleepers : List (Option ℕ)) (done : List Bool) w
     -- who is ready and waits may take
     pub may : (instance : ℕ) → IsReady now.lists k → seat_of locks k ≡ Waits instance → may_take locks k instance ≡ true
     may instance ready seat =
-        sym (ap (table.is_ready_in locks k) seat) ∙ (sym (ready_by_seat locks agrees sleepers done any k) ∙ ready any) where
-          any : World
-          any = record { outline = []; turn = 0; last = None; started = 0; instances = []; owners = []; waiters = []; free = []; done = []; asleep = []; arrays = []; devices = []; output = [] }
+        sym (ap (table.is_ready_in locks k) seat) ∙ (sym (ready_by_seat locks agrees sleepers done some_world k) ∙ ready some_world)
 
     pub took : (instance : ℕ) (new : LockTable) → IsReady now.lists k → seat_of locks k ≡ Waits instance → new ≡ seated k (Holds instance) (without_stack locks.waiters k) → Moves (takes k) now (table_of new sleepers done)
     took instance new ready seat e =

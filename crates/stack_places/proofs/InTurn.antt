@@ -9,13 +9,11 @@ use Rattle.script_meaning.specs.Stacks.{State}
 use Rattle.script_meaning.specs.World.{World}
 use Rattle.stack_places.specs.Places.{IsAway, Moved, Moves, MovesIn, PlaceLists, PlaceTable, Runs, finishes, placed, places_in, standings}
 use Rattle.stack_places.proofs.Numbers.{itself}
+use Rattle.stack_places.proofs.Standing.{some_world}
 
 none_left : (t : Bool) (c : ℕ) → t ≡ true → cond t 0 c ≡ 0
 none_left true c e = refl
 none_left false c e = absurd (cc)
-
-some_world : World
-some_world = record { outline = []; turn = 0; last = None; started = 0; instances = []; owners = []; waiters = []; free = []; done = []; asleep = []; arrays = []; devices = []; output = [] }
 
 -- a stack that let go stands nowhere
 pub away_after : (k : ℕ) (p q : PlaceLists) → Moved (let_go k) p q → Runs p k → IsAway q k

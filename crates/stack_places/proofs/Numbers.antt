@@ -152,12 +152,12 @@ longer n (first ∷ rest) = longer_by (nat_lt n first) (longer n rest) where
   longer_by false e = ap (λ m. suc m) e
 
 -- ---- pairs by their first numbers
-pair_first : (j v i : ℕ) (o : Option ℕ) (rest : List (ℕ × ℕ)) → j < i → with_pair (j, v) rest ≡ (j, v) ∷ rest → with_pair (j, v) (pair_of i o ++ rest) ≡ (j, v) ∷ pair_of i o ++ rest
+pub pair_first : (j v i : ℕ) (o : Option ℕ) (rest : List (ℕ × ℕ)) → j < i → with_pair (j, v) rest ≡ (j, v) ∷ rest → with_pair (j, v) (pair_of i o ++ rest) ≡ (j, v) ∷ pair_of i o ++ rest
 pair_first j v i None rest h e = e
 pair_first j v i (Some n) rest h e =
     ap (λ t. cond t ((j, v) ∷ (i, n) ∷ rest) ((i, n) ∷ with_pair (j, v) rest)) (less j i h)
 
-pair_later : (j v i : ℕ) (o : Option ℕ) (rest set : List (ℕ × ℕ)) → i < j → set ≡ with_pair (j, v) rest → pair_of i o ++ set ≡ with_pair (j, v) (pair_of i o ++ rest)
+pub pair_later : (j v i : ℕ) (o : Option ℕ) (rest set : List (ℕ × ℕ)) → i < j → set ≡ with_pair (j, v) rest → pair_of i o ++ set ≡ with_pair (j, v) (pair_of i o ++ rest)
 pair_later j v i None rest set h e = e
 pair_later j v i (Some n) rest set h e =
     let there : i ≤ j = omega (arith, h) in

@@ -13,7 +13,7 @@ use Rattle.lock_queue.specs.LockTable.{held_by, holds, seat_at}
 use Rattle.run_laws.specs.Exclusive.{how_many}
 use Rattle.script_meaning.specs.Locks.{second_is, second_is_other, stack_of, waited_for, with_pair}
 use Rattle.stack_places.specs.Lists.{pair_of, owners_from}
-use Rattle.stack_places.proofs.Numbers.{less, not_less, over, under, itself, none_and}
+use Rattle.stack_places.proofs.Numbers.{itself, none_and, over, pair_first, pair_later, under}
 
 -- ---- the place of a holder
 abbrev pub place : ℕ → List Seat → Option ℕ
@@ -91,22 +91,11 @@ above i (suc left) j k seats h e =
     let here : position (holds i) (slice_set seats k (Holds j)) ≡ position (holds i) seats = by_place i (slice_set seats k (Holds j)) ∙ (stays i k (Holds j) seats (under j i h) (idle i (seat_at seats k) e) ∙ sym (by_place i seats)) in
     ap (λ o. pair_of i o ++ owners_from (suc i) left (slice_set seats k (Holds j))) here ∙ ap (λ ps. pair_of i (position (holds i) seats) ++ ps) (above (suc i) left j k seats later e)
 
-pair_first : (j k i : ℕ) (o : Option ℕ) (rest : List (ℕ × ℕ)) → j < i → with_pair (j, k) rest ≡ (j, k) ∷ rest → with_pair (j, k) (pair_of i o ++ rest) ≡ (j, k) ∷ pair_of i o ++ rest
-pair_first j k i None rest h e = e
-pair_first j k i (Some n) rest h e =
-    ap (λ t. cond t ((j, k) ∷ (i, n) ∷ rest) ((i, n) ∷ with_pair (j, k) rest)) (less j i h)
-
 goes_first : (i left j k : ℕ) (seats : List Seat) → j < i → with_pair (j, k) (owners_from i left seats) ≡ (j, k) ∷ owners_from i left seats
 goes_first i zero j k seats h = refl
 goes_first i (suc left) j k seats h =
     let later : j < suc i = omega (arith, h) in
     pair_first j k i (position (holds i) seats) (owners_from (suc i) left seats) h (goes_first (suc i) left j k seats later)
-
-pair_later : (j k i : ℕ) (o : Option ℕ) (rest set : List (ℕ × ℕ)) → i < j → set ≡ with_pair (j, k) rest → pair_of i o ++ set ≡ with_pair (j, k) (pair_of i o ++ rest)
-pair_later j k i None rest set h e = e
-pair_later j k i (Some n) rest set h e =
-    let there : i ≤ j = omega (arith, h) in
-    ap (λ ps. (i, n) ∷ ps) e ∙ sym (ap (λ t. cond t ((j, k) ∷ (i, n) ∷ rest) ((i, n) ∷ with_pair (j, k) rest)) (not_less j i there))
 
 at_own : (i left j k : ℕ) (seats : List Seat) → i ≡ j → k < length seats → held_by (seat_at seats k) ≡ None → position (holds j) seats ≡ None → owners_from i (suc left) (slice_set seats k (Holds j)) ≡ with_pair (j, k) (owners_from i (suc left) seats)
 at_own i left j k seats s h e n =

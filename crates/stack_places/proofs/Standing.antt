@@ -9,6 +9,7 @@ use Rattle.lock_queue.specs.declared.seat.Seat.TheVariants.{Resting, Free, Waits
 use Rattle.lock_queue.specs.LockTable.{LockTable, held_by, holds, owner_of, pairs_if, pairs_of, seat_of, waits_for}
 use Rattle.run_laws.specs.Exclusive.{how_many, is_number}
 use Rattle.script_meaning.specs.Locks.{second_is, waited_for}
+use Rattle.script_meaning.specs.World.{World}
 use Rattle.stack_places.specs.Lists.{is_free, is_true, numbers_of, owners_from, pairs_from}
 use Rattle.stack_places.specs.Places.{IsAway, Runs, lists_of}
 use Rattle.stack_places.proofs.Numbers as numbers
@@ -21,6 +22,11 @@ pub record Agrees (locks : LockTable) : Type 0 where
   pub owners : (k instance : ℕ) → seat_of locks k ≡ Holds instance → owner_of locks instance ≡ Some k
   pub held : (k instance : ℕ) → seat_of locks k ≡ Holds instance → instance < locks.instances
   pub awaited : (k instance : ℕ) → seat_of locks k ≡ Waits instance → instance < locks.instances
+
+-- a world, for what holds of the lists of any
+pub some_world : World
+some_world =
+    record { outline = []; turn = 0; last = None; started = 0; instances = []; owners = []; waiters = []; free = []; done = []; asleep = []; arrays = []; devices = []; output = [] }
 
 -- ---- from counts to tests
 pub some_there : {X : Type 0} (test : X → Bool) (xs : List X) → 1 ≤ how_many test xs → list_any test xs ≡ true

@@ -12,15 +12,13 @@ use Rattle.run_laws.proofs.Counts.{how_many-append, how_many-split, how_many-wit
 use Rattle.stack_places.specs.Places.{IsAway, Moved, PlaceLists, due_in, placed, standings, without_due}
 use Rattle.stack_places.specs.Waking.{SleepAlone}
 use Rattle.stack_places.proofs.Numbers.{itself}
+use Rattle.stack_places.proofs.Standing.{some_world}
 
 -- the first sleeper that is due was taken away
 pub record Taken (turn k : ℕ) (p q : PlaceLists) : Type 0 where
   pub until : ℕ
   pub due : due_in turn p ≡ (k, until) ∷ due_in turn q
   pub rest : without_due turn q ≡ without_due turn p
-
-some_world : World
-some_world = record { outline = []; turn = 0; last = None; started = 0; instances = []; owners = []; waiters = []; free = []; done = []; asleep = []; arrays = []; devices = []; output = [] }
 
 one : (t : Bool) → t ≡ true → 1 ≤ cond t 1 0
 one true e = omega arith
