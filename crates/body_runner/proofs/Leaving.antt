@@ -25,7 +25,7 @@ use Rattle.body_runner.specs.declared.calls.Event.TheVariants as events
 use Rattle.body_runner.specs.declared.frame.Call.{Call}
 use Rattle.body_runner.specs.declared.frame.CallWay.TheVariants as ways
 use Rattle.body_runner.specs.Bodies.{home_of, inner_of}
-use Rattle.body_runner.specs.Leaving.{is_native_in, way_of, IsFunctionAt, IsRequest, Leaves, Makes, MakesOrRefuses, Refuses}
+use Rattle.body_runner.specs.Leaving.{is_native_in, way_asked, way_of, way_told, IsFunctionAt, IsRequest, Leaves, Makes, MakesOrRefuses, Refuses}
 use Rattle.body_runner.specs.Operands.{kind_of, worth}
 use Rattle.body_runner.specs.Settings.{method_at}
 use Rattle.body_runner.specs.Sights.{IsThere, Rest}
@@ -65,12 +65,13 @@ module _ (home : Home) (old new : Inner) where
       subst (λ (e : Event). Leaves home i e old new) (sym r.event_is) (record { means = step.means; kept = step.kept })
 
   -- ---- called
-  made_by : (i : LoadedInstruction) (request : Request) (call : Call) (event : Event) → way_of home.script i ≡ Some call.way → call.kept ≡ None → IsRequest home.instance request call.instance call.arguments.items → Runs i (λ at rest. Stops request at (within rest)) → Makes old new call event → Leaves home i event old new
-  made_by i request call event way kept is form m =
+  made_by : (i : LoadedInstruction) (request : Request) (call : Call) (event : Event) → way_of home.script i ≡ Some call.way → way_told home.script i ≡ way_asked request → call.kept ≡ None → IsRequest home.instance request call.instance call.arguments.items → Runs i (λ at rest. Stops request at (within rest)) → Makes old new call event → Leaves home i event old new
+  made_by i request call event way told kept is form m =
       subst (λ (e : Event). Leaves home i e old new) (sym m.event_is) (record {
         means = record {
           request = request;
           way = way;
+          told = told;
           kept = kept;
           is_request = is;
           stops = λ at rest. form at rest ∙ ap (Stops request at) (sym (inner_same home old new rest m.nothing));
@@ -82,14 +83,14 @@ module _ (home : Home) (old new : Inner) where
   framed_by true at to request rest = refl
   framed_by false at to request rest = refl
 
-  by_room : (there : IsThere home.instance old.store.now.instances) (room : Bool) (i : LoadedInstruction) (to : Operand) (request : Request) (call : Call) (event : Event) → way_of home.script i ≡ Some call.way → call.kept ≡ None → IsRequest home.instance request call.instance call.arguments.items → Runs i (λ at rest. cond room (Stops request at (within rest)) (settled (home_of home) at (operand_of to) (code.default_at (home_of home) (operand_of to), Some FrameLimit) (within rest))) → MakesOrRefuses room home old new to call event → Leaves home i event old new
-  by_room there true i to request call event way kept is form m = made_by i request call event way kept is form m
-  by_room there false i to request call event way kept is form m = refused there i to FrameLimit event form m
+  by_room : (there : IsThere home.instance old.store.now.instances) (room : Bool) (i : LoadedInstruction) (to : Operand) (request : Request) (call : Call) (event : Event) → way_of home.script i ≡ Some call.way → way_told home.script i ≡ way_asked request → call.kept ≡ None → IsRequest home.instance request call.instance call.arguments.items → Runs i (λ at rest. cond room (Stops request at (within rest)) (settled (home_of home) at (operand_of to) (code.default_at (home_of home) (operand_of to), Some FrameLimit) (within rest))) → MakesOrRefuses room home old new to call event → Leaves home i event old new
+  by_room there true i to request call event way told kept is form m = made_by i request call event way told kept is form m
+  by_room there false i to request call event way told kept is form m = refused there i to FrameLimit event form m
 
   -- a request that needs a frame
-  asks : (there : IsThere home.instance old.store.now.instances) (i : LoadedInstruction) (to : Operand) (request : Request) (call : Call) (event : Event) → way_of home.script i ≡ Some call.way → call.kept ≡ None → IsRequest home.instance request call.instance call.arguments.items → Runs i (λ at rest. asked (home_of home) at (Some (operand_of to)) (within rest) (framed (home_of home).setting (code.place_of (home_of home) at) request (code.default_at (home_of home) (operand_of to)) (within rest).sight)) → MakesOrRefuses home.has_room home old new to call event → Leaves home i event old new
-  asks there i to request call event way kept is form m =
-      by_room there home.has_room i to request call event way kept is (λ at rest. form at rest ∙ framed_by home.has_room at to request rest) m
+  asks : (there : IsThere home.instance old.store.now.instances) (i : LoadedInstruction) (to : Operand) (request : Request) (call : Call) (event : Event) → way_of home.script i ≡ Some call.way → way_told home.script i ≡ way_asked request → call.kept ≡ None → IsRequest home.instance request call.instance call.arguments.items → Runs i (λ at rest. asked (home_of home) at (Some (operand_of to)) (within rest) (framed (home_of home).setting (code.place_of (home_of home) at) request (code.default_at (home_of home) (operand_of to)) (within rest).sight)) → MakesOrRefuses home.has_room home old new to call event → Leaves home i event old new
+  asks there i to request call event way told kept is form m =
+      by_room there home.has_room i to request call event way told kept is (λ at rest. form at rest ∙ framed_by home.has_room at to request rest) m
 
   -- ---- methods
   abbrev put_question : ℕ → Operand → Rest → Question → Meant
@@ -105,19 +106,19 @@ module _ (home : Home) (old new : Inner) where
 
   pub some_method : (there : IsThere home.instance old.store.now.instances) (number target : ℕ) (object to : Operand) (call : Call) (vector : Vec Value Global) (event : Event) → Some target ≡ instance_in (worth home old object) → (more : Vec Operand Global) → call ≡ record { instance = Some target; way = ways.Method number; arguments = vector; kept = None } → vector.items ≡ map (worth home old) more.items → MakesOrRefuses home.has_room home old new to call event → (text : List ℕ) → Leaves home (loaded.CallMethod text (Some number) object to more) event old new
   some_method there number target object to call vector event e more is arguments m text =
-      asks there (loaded.CallMethod text (Some number) object to more) to (Method target text (map (worth home old) more.items) (code.default_at (home_of home) (operand_of to))) call event (ap (λ (c : Call). Some c.way) (sym is)) (ap (λ (c : Call). c.kept) is) (ap (λ (c : Call). c.instance) is, ap (λ (c : Call). c.arguments.items) is ∙ arguments) (λ at rest. method_same at rest object to (Some target) text more e) m
+      asks there (loaded.CallMethod text (Some number) object to more) to (Method target text (map (worth home old) more.items) (code.default_at (home_of home) (operand_of to))) call event (ap (λ (c : Call). Some c.way) (sym is)) refl (ap (λ (c : Call). c.kept) is) (ap (λ (c : Call). c.instance) is, ap (λ (c : Call). c.arguments.items) is ∙ arguments) (λ at rest. method_same at rest object to (Some target) text more e) m
 
   -- ---- the parent's methods
   pub parent_method : (there : IsThere home.instance old.store.now.instances) (number : ℕ) (to : Operand) (call : Call) (vector : Vec Value Global) (event : Event) (more : Vec Operand Global) → call ≡ record { instance = home.instance; way = ways.Parent home.script number; arguments = vector; kept = None } → vector.items ≡ map (worth home old) more.items → MakesOrRefuses home.has_room home old new to call event → (text : List ℕ) → Leaves home (loaded.CallParent text (Some number) to more) event old new
   parent_method there number to call vector event more is arguments m text =
-      asks there (loaded.CallParent text (Some number) to more) to (ParentMethod home.script text (map (worth home old) more.items) (code.default_at (home_of home) (operand_of to))) call event (ap (λ (c : Call). Some c.way) (sym is)) (ap (λ (c : Call). c.kept) is) (ap (λ (c : Call). c.instance) is, ap (λ (c : Call). c.arguments.items) is ∙ arguments) (λ at rest. ap (λ vs. put_question at to rest (Asks (ParentMethod home.script text vs (code.default_at (home_of home) (operand_of to))))) (sym (arguments_there rest more.items))) m
+      asks there (loaded.CallParent text (Some number) to more) to (ParentMethod home.script text (map (worth home old) more.items) (code.default_at (home_of home) (operand_of to))) call event (ap (λ (c : Call). Some c.way) (sym is)) refl (ap (λ (c : Call). c.kept) is) (ap (λ (c : Call). c.instance) is, ap (λ (c : Call). c.arguments.items) is ∙ arguments) (λ at rest. ap (λ vs. put_question at to rest (Asks (ParentMethod home.script text vs (code.default_at (home_of home) (operand_of to))))) (sym (arguments_there rest more.items))) m
 
   -- ---- global functions
   static_by : (script : ℕ) (text : List ℕ) (arguments : List Value) (otherwise : Value) (found : FoundMethod) (native : Bool) → found.function.is_native ≡ native → static_request script text arguments otherwise (Some found) ≡ cond native (GlobalNative (record { script = found.script; place = found.number }) arguments) (GlobalFunction script text arguments otherwise)
   static_by script text arguments otherwise found native e =
       ap (λ b. cond b (GlobalNative (record { script = found.script; place = found.number }) arguments) (GlobalFunction script text arguments otherwise)) e
 
-  static_same : (at : ℕ) (rest : Rest) (script : ℕ) (text : List ℕ) (to : Operand) (more : Vec Operand Global) (place : MethodPlace) (native : Bool) → IsFunctionAt home script text place → native ≡ is_native_in (method_at home.turn.now.setting.now.loaded.scripts place) → executed (home_of home) at (op.CallStatic script text (operand_of to) (map operand_of more.items)) (within rest) ≡ put_question at to rest (Asks (cond native (GlobalNative (record { script = place.script; place = place.place }) (map (worth home old) more.items)) (GlobalFunction script text (map (worth home old) more.items) (code.default_at (home_of home) (operand_of to)))))
+  static_same : (at : ℕ) (rest : Rest) (script : ℕ) (text : List ℕ) (to : Operand) (more : Vec Operand Global) (place : MethodPlace) (native : Bool) → IsFunctionAt home.turn.now.setting.now.loaded script text place → native ≡ is_native_in (method_at home.turn.now.setting.now.loaded.scripts place) → executed (home_of home) at (op.CallStatic script text (operand_of to) (map operand_of more.items)) (within rest) ≡ put_question at to rest (Asks (cond native (GlobalNative (record { script = place.script; place = place.place }) (map (worth home old) more.items)) (GlobalFunction script text (map (worth home old) more.items) (code.default_at (home_of home) (operand_of to)))))
   static_same at rest script text to more place native f e =
       ap (λ vs. put_question at to rest (Asks (static_request script text vs (code.default_at (home_of home) (operand_of to)) (first_method (home_of home).scripts (meant.lineage (home_of home).setting.outline (Some script)) [] text)))) (sym (arguments_there rest more.items))
       ∙ (ap (λ (o : Option FoundMethod). put_question at to rest (Asks (static_request script text (map (worth home old) more.items) (code.default_at (home_of home) (operand_of to)) o))) f.is
@@ -125,9 +126,9 @@ module _ (home : Home) (old new : Inner) where
       ∙ (ap (λ n. put_question at to rest (Asks (cond native (GlobalNative (record { script = n; place = f.found.number }) (map (worth home old) more.items)) (GlobalFunction script text (map (worth home old) more.items) (code.default_at (home_of home) (operand_of to)))))) f.script_is
       ∙ ap (λ n. put_question at to rest (Asks (cond native (GlobalNative (record { script = place.script; place = n }) (map (worth home old) more.items)) (GlobalFunction script text (map (worth home old) more.items) (code.default_at (home_of home) (operand_of to)))))) f.number_is)))
 
-  pub static_call : (there : IsThere home.instance old.store.now.instances) (place : MethodPlace) (to : Operand) (call : Call) (vector : Vec Value Global) (event : Event) (more : Vec Operand Global) → call ≡ record { instance = None; way = ways.Global place; arguments = vector; kept = None } → vector.items ≡ map (worth home old) more.items → false ≡ is_native_in (method_at home.turn.now.setting.now.loaded.scripts place) → MakesOrRefuses home.has_room home old new to call event → (script : ℕ) (text : List ℕ) → IsFunctionAt home script text place → Leaves home (loaded.CallStatic script text (Some place) to more) event old new
+  pub static_call : (there : IsThere home.instance old.store.now.instances) (place : MethodPlace) (to : Operand) (call : Call) (vector : Vec Value Global) (event : Event) (more : Vec Operand Global) → call ≡ record { instance = None; way = ways.Global place; arguments = vector; kept = None } → vector.items ≡ map (worth home old) more.items → false ≡ is_native_in (method_at home.turn.now.setting.now.loaded.scripts place) → MakesOrRefuses home.has_room home old new to call event → (script : ℕ) (text : List ℕ) → IsFunctionAt home.turn.now.setting.now.loaded script text place → Leaves home (loaded.CallStatic script text (Some place) to more) event old new
   static_call there place to call vector event more is arguments native m script text f =
-      asks there (loaded.CallStatic script text (Some place) to more) to (GlobalFunction script text (map (worth home old) more.items) (code.default_at (home_of home) (operand_of to))) call event (ap (λ (c : Call). Some c.way) (sym is)) (ap (λ (c : Call). c.kept) is) (ap (λ (c : Call). c.instance) is, ap (λ (c : Call). c.arguments.items) is ∙ arguments) (λ at rest. static_same at rest script text to more place false f native) m
+      asks there (loaded.CallStatic script text (Some place) to more) to (GlobalFunction script text (map (worth home old) more.items) (code.default_at (home_of home) (operand_of to))) call event (ap (λ (c : Call). Some c.way) (sym is)) refl (ap (λ (c : Call). c.kept) is) (ap (λ (c : Call). c.instance) is, ap (λ (c : Call). c.arguments.items) is ∙ arguments) (λ at rest. static_same at rest script text to more place false f native) m
 
   -- ---- properties
   get_same : (at : ℕ) (rest : Rest) (object to : Operand) (target : Option ℕ) (text : List ℕ) → target ≡ instance_in (worth home old object) → executed (home_of home) at (op.PropGet text (operand_of object) (operand_of to)) (within rest) ≡ put_question at to rest (get_of target text (code.default_at (home_of home) (operand_of to)))
@@ -140,7 +141,7 @@ module _ (home : Home) (old new : Inner) where
 
   pub some_get : (there : IsThere home.instance old.store.now.instances) (number target : ℕ) (object to : Operand) (call : Call) (vector : Vec Value Global) (event : Event) → Some target ≡ instance_in (worth home old object) → call ≡ record { instance = Some target; way = ways.Get number; arguments = vector; kept = None } → ◌≡◌ {A = List Value} vector.items [] → MakesOrRefuses home.has_room home old new to call event → (text : List ℕ) → Leaves home (loaded.PropGet text (Some number) object to) event old new
   some_get there number target object to call vector event e is arguments m text =
-      asks there (loaded.PropGet text (Some number) object to) to (Get target text (code.default_at (home_of home) (operand_of to))) call event (ap (λ (c : Call). Some c.way) (sym is)) (ap (λ (c : Call). c.kept) is) (ap (λ (c : Call). c.instance) is, ap (λ (c : Call). c.arguments.items) is ∙ arguments) (λ at rest. get_same at rest object to (Some target) text e) m
+      asks there (loaded.PropGet text (Some number) object to) to (Get target text (code.default_at (home_of home) (operand_of to))) call event (ap (λ (c : Call). Some c.way) (sym is)) refl (ap (λ (c : Call). c.kept) is) (ap (λ (c : Call). c.instance) is, ap (λ (c : Call). c.arguments.items) is ∙ arguments) (λ at rest. get_same at rest object to (Some target) text e) m
 
 -- ---- where nothing is stored
 module _ (home : Home) (inner : Inner) where
@@ -150,7 +151,7 @@ module _ (home : Home) (inner : Inner) where
   arguments_here : (rest : Rest) (more : List Operand) → map (worth home inner) more ≡ map (code.worth (home_of home) (inside rest)) (map operand_of more)
   arguments_here rest more = arguments_there home inner inner rest more
 
-  pub static_native : (place : MethodPlace) (to : Operand) (arguments : Vec Value Global) (more : Vec Operand Global) → arguments.items ≡ map (worth home inner) more.items → true ≡ is_native_in (method_at home.turn.now.setting.now.loaded.scripts place) → (script : ℕ) (text : List ℕ) → IsFunctionAt home script text place → Leaves home (loaded.CallStatic script text (Some place) to more) (events.Native place arguments) inner inner
+  pub static_native : (place : MethodPlace) (to : Operand) (arguments : Vec Value Global) (more : Vec Operand Global) → arguments.items ≡ map (worth home inner) more.items → true ≡ is_native_in (method_at home.turn.now.setting.now.loaded.scripts place) → (script : ℕ) (text : List ℕ) → IsFunctionAt home.turn.now.setting.now.loaded script text place → Leaves home (loaded.CallStatic script text (Some place) to more) (events.Native place arguments) inner inner
   static_native place to arguments more e native script text f = record {
     means = λ at rest. static_same home inner inner at rest script text to more place true f native ∙ ap (λ vs. ask (home_of home) at (Some (operand_of to)) (Asks (GlobalNative (record { script = place.script; place = place.place }) vs)) (inside rest)) (sym e);
     kept = same_kept home inner inner refl;
@@ -197,6 +198,7 @@ module _ (home : Home) (inner : Inner) where
     means = record {
       request = Set target text (worth home inner value);
       way = ap (λ (c : Call). Some c.way) (sym is);
+      told = refl;
       kept = ap (λ (c : Call). c.kept) is;
       is_request = (ap (λ (c : Call). c.instance) is, ap (λ (c : Call). c.arguments.items) is ∙ arguments);
       stops = λ at rest. set_runs at rest object value target text true room e;

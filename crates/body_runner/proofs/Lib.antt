@@ -1,9 +1,12 @@
 pub mod Arrays
 pub mod ArraySteps
 pub mod Casting
+pub mod Coded
+pub mod InRows
 pub mod Kept
 pub mod Leaving
 pub mod Meaning
+pub mod Places
 pub mod Replies
 pub mod Steps
 pub mod Texts

@@ -25,7 +25,7 @@ use Rattle.body_runner.specs.Bodies.{home_of, inner_of, printing}
 use Rattle.body_runner.specs.Instructions.{number_of, StoresQuotient, StoresText}
 use Rattle.body_runner.specs.Operands.{kind_of, worth, Stores}
 use Rattle.body_runner.specs.Sights.{IsThere, Rest}
-use Rattle.body_runner.specs.Steps.{answered_of, done_of, jump_of, jump_step, same_truth, step_of, GoesOn, StepMeans, Steps}
+use Rattle.body_runner.specs.Steps.{answered_of, done_of, is_leaving, jump_of, jump_step, same_truth, step_of, GoesOn, StepMeans, Steps}
 use Rattle.body_runner.specs.Values.{is_true, text_in}
 use Rattle.body_runner.proofs.Arrays.{equal_same}
 use Rattle.body_runner.proofs.Kept.{same_kept, stored_kept}
@@ -194,8 +194,8 @@ module _ (home : Home) (inner : Inner) where
   pub nop : Steps home loaded.Nop Done inner inner
   nop = stays loaded.Nop Done (λ at rest. refl)
 
-  pub leaves : (i : LoadedInstruction) → Steps home i Leaves inner inner
-  leaves i = stays i Leaves (record { slots = refl; instances = refl; arrays = refl })
+  pub leaves : (i : LoadedInstruction) → is_leaving i ≡ true → Steps home i Leaves inner inner
+  leaves i e = stays i Leaves (record { leaving = e; nothing = record { slots = refl; instances = refl; arrays = refl } })
 
   pub jmp : (offset : ℤ) (landing : ℕ) → Steps home (loaded.Jmp offset landing) (Jump landing) inner inner
   jmp offset landing = stays (loaded.Jmp offset landing) (Jump landing) (record { offset = offset; is = refl; taken = λ at rest. refl })

@@ -27,33 +27,36 @@ use Rattle.body_runner.specs.Operands.{Stores, StoresNothing, kind_of}
 use Rattle.body_runner.specs.Settings.{method_at}
 use Rattle.body_runner.specs.Sights.{Rest}
 use Rattle.body_runner.specs.Steps.{GoesOn}
+use Rattle.pex_verify.specs.Plain.{outline_of, scripts_of}
+use Rattle.pex_verify.specs.Sets.{LoadedSet}
+use Rattle.script_meaning.specs.Stacks.{Way, ByMethod, ByParent, ByGlobal, ByGet, BySet}
 
 -- ---- what was looked up in advance
 abbrev pub is_native_in : Option LoadedFunction → Bool
 is_native_in None = false
 is_native_in (Some function) = function.is_native
 
--- the function that a callstatic names stands at this place
-pub record IsFunctionAt (home : Home) (script : ℕ) (name : List ℕ) (place : MethodPlace) : Type 0 where
+-- the function that a callstatic names stands at this place of a set
+pub record IsFunctionAt (set : LoadedSet) (script : ℕ) (name : List ℕ) (place : MethodPlace) : Type 0 where
   pub found : FoundMethod
-  pub is : first_method (home_of home).scripts (lineage (home_of home).setting.outline (Some script)) [] name ≡ Some found
+  pub is : first_method (scripts_of set) (lineage (outline_of set) (Some script)) [] name ≡ Some found
   pub script_is : found.script ≡ place.script
   pub number_is : found.number ≡ place.place
-  pub native_is : found.function.is_native ≡ is_native_in (method_at home.turn.now.setting.now.loaded.scripts place)
+  pub native_is : found.function.is_native ≡ is_native_in (method_at set.scripts place)
 
-abbrev pub IsPlaced : Home → ℕ → List ℕ → Option MethodPlace → Type 0
-IsPlaced home script name None = ⊥
-IsPlaced home script name (Some place) = IsFunctionAt home script name place
+abbrev pub IsPlaced : LoadedSet → ℕ → List ℕ → Option MethodPlace → Type 0
+IsPlaced set script name None = ⊥
+IsPlaced set script name (Some place) = IsFunctionAt set script name place
 
--- the instruction calls or returns, and what it names was found
-abbrev pub IsLeaving : Home → LoadedInstruction → Type 0
-IsLeaving home (loaded.CallMethod name number object result arguments) = IsSome number
-IsLeaving home (loaded.CallParent name number result arguments) = IsSome number
-IsLeaving home (loaded.CallStatic script name function result arguments) = IsPlaced home script name function
-IsLeaving home (loaded.Return value) = Unit {0}
-IsLeaving home (loaded.PropGet name number object result) = IsSome number
-IsLeaving home (loaded.PropSet name number object value) = IsSome number
-IsLeaving home _ = ⊥
+-- the instruction of a set calls or returns, and what it names was found
+abbrev pub IsLeaving : LoadedSet → LoadedInstruction → Type 0
+IsLeaving set (loaded.CallMethod name number object result arguments) = IsSome number
+IsLeaving set (loaded.CallParent name number result arguments) = IsSome number
+IsLeaving set (loaded.CallStatic script name function result arguments) = IsPlaced set script name function
+IsLeaving set (loaded.Return value) = Unit {0}
+IsLeaving set (loaded.PropGet name number object result) = IsSome number
+IsLeaving set (loaded.PropSet name number object value) = IsSome number
+IsLeaving set _ = ⊥
 
 -- ---- calls
 -- how an instruction of a script that calls names its function
@@ -64,6 +67,24 @@ way_of script (loaded.CallStatic library name function result arguments) = optio
 way_of script (loaded.PropGet name number object result) = option_map (λ n. ways.Get n) number
 way_of script (loaded.PropSet name number object value) = option_map (λ n. ways.Set n) number
 way_of script _ = None
+
+-- the same in the terms of the definitions, by the text of the name
+abbrev pub way_told : ℕ → LoadedInstruction → Option Way
+way_told script (loaded.CallMethod name number object result arguments) = Some (ByMethod name)
+way_told script (loaded.CallParent name number result arguments) = Some (ByParent script name)
+way_told script (loaded.CallStatic library name function result arguments) = Some (ByGlobal library name)
+way_told script (loaded.PropGet name number object result) = Some (ByGet name)
+way_told script (loaded.PropSet name number object value) = Some (BySet name)
+way_told script _ = None
+
+-- how the call that a body requests is looked up
+abbrev pub way_asked : Request → Option Way
+way_asked (Method target name arguments otherwise) = Some (ByMethod name)
+way_asked (ParentMethod script name arguments otherwise) = Some (ByParent script name)
+way_asked (GlobalFunction script name arguments otherwise) = Some (ByGlobal script name)
+way_asked (Get target name otherwise) = Some (ByGet name)
+way_asked (Set target name value) = Some (BySet name)
+way_asked _ = None
 
 -- the instance and the arguments of a call that a body on an instance requests
 abbrev pub IsRequest : Option ℕ → Request → Option ℕ → List Value → Type 0
@@ -80,6 +101,7 @@ IsRequest own _ instance values = ⊥
 pub record Calls (home : Home) (instruction : LoadedInstruction) (call : Call) (old new : Inner) : Type 0 where
   pub request : Request
   pub way : way_of home.script instruction ≡ Some call.way
+  pub told : way_told home.script instruction ≡ way_asked request
   pub kept : call.kept ≡ None
   pub is_request : IsRequest home.instance request call.instance call.arguments.items
   pub stops : (at : ℕ) (rest : Rest) → executed (home_of home) at (instruction_of instruction) (inner_of home old rest) ≡ Stops request at (inner_of home new rest)

@@ -7,6 +7,7 @@ pub mod Instructions
 pub mod Leaving
 pub mod Lines
 pub mod Operands
+pub mod Rows
 pub mod Settings
 pub mod Sights
 pub mod Steps

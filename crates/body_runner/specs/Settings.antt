@@ -1,5 +1,5 @@
 -- What is found among loaded scripts.
-use Rattle.std.specs.Prelude.{ℕ, ◌-◌, List, Option, Some, None, length, slice_get}
+use Rattle.std.specs.Prelude.{ℕ, ◌-◌, List, Option, Some, None, length, slice_get, IfSome}
 use Rattle.std.specs.Option.{option_and_then, option_map, option_or}
 use Rattle.core_tree.specs.declared.core_type.CoreType.{CoreType}
 use Rattle.core_tree.specs.declared.core_type.CoreType.TheVariants as kinds
@@ -14,6 +14,7 @@ use Rattle.loaded_code.specs.declared.script.MethodPlace.{MethodPlace}
 use Rattle.loaded_code.specs.declared.operand.Operand.{Operand}
 use Rattle.loaded_code.specs.declared.operand.Operand.TheVariants as operands
 use Rattle.loaded_code.specs.declared.script.PropertyPlace.{PropertyPlace}
+use Rattle.pex_verify.specs.Coded.{IsCodedFunction}
 use Rattle.body_runner.specs.declared.frame.LoadedBody.{LoadedBody}
 use Rattle.body_runner.specs.declared.frame.LoadedBody.TheVariants as bodies
 
@@ -26,10 +27,20 @@ abbrev pub property_at : List LoadedScript → PropertyPlace → Option LoadedPr
 property_at scripts at =
     option_and_then (λ script. slice_get script.properties.items at.place) (slice_get scripts at.script)
 
+-- the function that reads or writes a property: none where it has a variable, since it is Auto then
+abbrev pub accessor_of : Option ℕ → Option LoadedFunction → Option LoadedFunction
+accessor_of None function = function
+accessor_of (Some variable) function = None
+
 abbrev pub function_of : List LoadedScript → LoadedBody → Option LoadedFunction
 function_of scripts (bodies.Method at) = method_at scripts at
-function_of scripts (bodies.Reader at) = option_and_then (λ property. property.read) (property_at scripts at)
-function_of scripts (bodies.Writer at) = option_and_then (λ property. property.write) (property_at scripts at)
+function_of scripts (bodies.Reader at) = option_and_then (λ property. accessor_of property.variable property.read) (property_at scripts at)
+function_of scripts (bodies.Writer at) = option_and_then (λ property. accessor_of property.variable property.write) (property_at scripts at)
+
+-- the code of what reads and writes a property, in a set of so many scripts
+pub record AreCodedAccessors (scripts : ℕ) (property : LoadedProperty) : Type 0 where
+  pub read : IfSome property.read (IsCodedFunction scripts)
+  pub write : IfSome property.write (IsCodedFunction scripts)
 
 -- ---- the types of what operands store
 abbrev pub slot_type : LoadedFunction → ℕ → Option CoreType

@@ -32,11 +32,26 @@ pub record Jumps (home : Home) (instruction : LoadedInstruction) (landing : ℕ)
   pub is : jump_of instruction ≡ Some (offset, landing)
   pub taken : (at : ℕ) (rest : Rest) → executed (home_of home) at (instruction_of instruction) (inner_of home old rest) ≡ jumped at offset (inner_of home new rest)
 
+-- whether an instruction calls or returns
+abbrev pub is_leaving : LoadedInstruction → Bool
+is_leaving (loaded.CallMethod name number object result arguments) = true
+is_leaving (loaded.CallParent name number result arguments) = true
+is_leaving (loaded.CallStatic script name function result arguments) = true
+is_leaving (loaded.Return value) = true
+is_leaving (loaded.PropGet name number object result) = true
+is_leaving (loaded.PropSet name number object value) = true
+is_leaving _ = false
+
+-- nothing is done yet of an instruction that calls or returns
+pub record Waits (instruction : LoadedInstruction) (old new : Inner) : Type 0 where
+  pub leaving : is_leaving instruction ≡ true
+  pub nothing : StoresNothing old new
+
 abbrev pub StepMeans : Home → LoadedInstruction → Step → Inner → Inner → Type 0
 StepMeans home instruction Done old new = GoesOn home instruction None old new
 StepMeans home instruction (Faulted fault) old new = GoesOn home instruction (Some fault) old new
 StepMeans home instruction (Jump landing) old new = Jumps home instruction landing old new
-StepMeans home instruction Leaves old new = StoresNothing old new
+StepMeans home instruction Leaves old new = Waits instruction old new
 
 -- the step is what the instruction means, and the body changes no instance but its own
 pub record Steps (home : Home) (instruction : LoadedInstruction) (step : Step) (old new : Inner) : Type 0 where

@@ -41,7 +41,7 @@ pub enum Event {
 impl Home<'_> {
     /// What an instruction that calls or returns asks for. Any other would return None, and is never asked.
     pub fn leave(&self, inner: &mut Inner<'_>, instruction: &LoadedInstruction) -> Made<Event>
-        ensures { IsThere self.now.instance inner.old.store.now.instances → IsLeaving self.now instruction.now → IfOk result (λ event. Leaves self.now instruction.now event inner.old inner.new) }
+        ensures { IsThere self.now.instance inner.old.store.now.instances → IsLeaving self.now.turn.now.setting.now.loaded instruction.now → IfOk result (λ event. Leaves self.now instruction.now event inner.old inner.new) }
     {
         match instruction {
             LoadedInstruction::CallMethod {
@@ -129,7 +129,7 @@ impl Home<'_> {
         to: &Operand,
         arguments: &[Operand],
     ) -> Made<Event>
-        ensures { IsThere self.now.instance inner.old.store.now.instances → (script : ℕ) (text : List ℕ) (more : Vec Operand Global) → IsPlaced self.now script text function → more.items ≡ arguments.now → IfOk result (λ event. Leaves self.now (loaded.CallStatic script text function to.now more) event inner.old inner.new) }
+        ensures { IsThere self.now.instance inner.old.store.now.instances → (script : ℕ) (text : List ℕ) (more : Vec Operand Global) → IsPlaced self.now.turn.now.setting.now.loaded script text function → more.items ≡ arguments.now → IfOk result (λ event. Leaves self.now (loaded.CallStatic script text function to.now more) event inner.old inner.new) }
     {
         let Some(at) = function else {
             return self.refuse(inner, to, StackFault::NoneCall);

@@ -1,7 +1,8 @@
 //! The frames of stacks.
 
 ghost use Rattle.std.specs.Prelude.{◌≡◌, ◌≤◌};
-ghost use Rattle.body_runner.specs.Frames.{frames_below, inner_instance, is_done};
+ghost use Rattle.code_meaning.specs.LookUp.{script_of};
+ghost use Rattle.body_runner.specs.Frames.{frames_below, inner_instance, is_done, place_of};
 
 use core_tree::Value;
 use loaded_code::{MethodPlace, PropertyPlace};
@@ -53,10 +54,13 @@ pub enum LoadedBody {
 
 impl LoadedBody {
     /// The number of the script in which the body stands.
-    pub fn script(self) -> u16 {
+    pub fn script(self) -> u16
+        ensures { result ≡ script_of (place_of self) }
+    {
         match self {
             LoadedBody::Method(method) => method.script,
-            LoadedBody::Reader(property) | LoadedBody::Writer(property) => property.script,
+            LoadedBody::Reader(property) => property.script,
+            LoadedBody::Writer(property) => property.script,
         }
     }
 

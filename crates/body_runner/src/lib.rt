@@ -8,6 +8,7 @@ mod casts;
 mod frame;
 mod instructions;
 mod lines;
+mod rows;
 mod setting;
 mod store;
 
@@ -18,5 +19,6 @@ pub use casts::{number_of, text_of};
 pub use frame::{Call, CallWay, FRAME_LIMIT, Frame, LoadedBody, Stack};
 pub use instructions::{Step, element_type};
 pub use lines::{append_escaped, fault_line, trace_line};
+pub use rows::Row;
 pub use setting::{Found, Setting, name_of, slot_type};
 pub use store::{Store, copies};

@@ -1,11 +1,12 @@
 //! What no turn changes: the loaded scripts, the scene and what its natives are bound to; and what names mean there.
 
-ghost use Rattle.std.specs.Prelude.{◌≡◌, slice_get};
+ghost use Rattle.std.specs.Prelude.{◌≡◌, ℕ, IfSome, length, slice_get};
 ghost use Rattle.std.specs.Option.{option_copied, option_map};
 ghost use Rattle.papy_base.specs.Lineage.{parent_of, stands_below};
 ghost use Rattle.core_tree.specs.Outlines.{parents_of};
 ghost use Rattle.machine_state.specs.Savable.{name_of};
-ghost use Rattle.body_runner.specs.Settings.{function_of, method_at, property_at, slot_type, type_of};
+ghost use Rattle.pex_verify.specs.Coded.{IsCodedFunction};
+ghost use Rattle.body_runner.specs.Settings.{accessor_of, function_of, method_at, property_at, slot_type, type_of, AreCodedAccessors};
 
 use crate::bindings::Bindings;
 use crate::frame::{CallWay, LoadedBody};
@@ -34,20 +35,28 @@ pub struct Setting {
 }
 
 impl Setting {
-    /// The function of a body.
+    /// The function of a body. An Auto property has none.
     pub fn function(&self, body: LoadedBody) -> Option<&LoadedFunction>
-        ensures { option_copied result ≡ function_of self.now.loaded.scripts body }
+        ensures function { option_copied result ≡ function_of self.now.loaded.scripts body }
+        ensures coded { IfSome result (λ f. IsCodedFunction (length self.now.loaded.scripts) f.now) }
     {
         match body {
             LoadedBody::Method(place) => self.method(place),
-            LoadedBody::Reader(place) => self.property(place)?.read.as_ref(),
-            LoadedBody::Writer(place) => self.property(place)?.write.as_ref(),
+            LoadedBody::Reader(place) => {
+                let property = self.property(place)?;
+                accessor(property.variable, &property.read)
+            }
+            LoadedBody::Writer(place) => {
+                let property = self.property(place)?;
+                accessor(property.variable, &property.write)
+            }
         }
     }
 
     /// The function at a place.
     pub fn method(&self, at: MethodPlace) -> Option<&LoadedFunction>
-        ensures { option_copied result ≡ method_at self.now.loaded.scripts at }
+        ensures method { option_copied result ≡ method_at self.now.loaded.scripts at }
+        ensures coded { IfSome result (λ f. IsCodedFunction (length self.now.loaded.scripts) f.now) }
     {
         if usize::from(at.script) >= self.loaded.outline().scripts.len() {
             return None;
@@ -72,7 +81,8 @@ impl Setting {
 
     /// The property at a place.
     pub fn property(&self, at: PropertyPlace) -> Option<&LoadedProperty>
-        ensures { option_copied result ≡ property_at self.now.loaded.scripts at }
+        ensures property { option_copied result ≡ property_at self.now.loaded.scripts at }
+        ensures coded { IfSome result (λ p. AreCodedAccessors (length self.now.loaded.scripts) p.now) }
     {
         if usize::from(at.script) >= self.loaded.outline().scripts.len() {
             return None;
@@ -234,6 +244,17 @@ impl Setting {
             left = left.saturating_sub(found.properties.len());
         }
         Ok(None)
+    }
+}
+
+// A property that has a variable is Auto.
+fn accessor(variable: Option<u16>, function: &Option<LoadedFunction>) -> Option<&LoadedFunction>
+    ensures function { option_copied result ≡ accessor_of variable function.now }
+    ensures coded { (scripts : ℕ) → IfSome function.now (IsCodedFunction scripts) → IfSome result (λ f. IsCodedFunction scripts f.now) }
+{
+    match variable {
+        Some(_) => None,
+        None => function.as_ref(),
     }
 }
 

@@ -13,7 +13,7 @@ pub all_later : {A : Type 0} (P Q : A → Type 0) (each : (x : A) → P x → Q 
 all_later P Q each [] all = tt
 all_later P Q each (x ∷ xs) all = (each x all.0, all_later P Q each xs all.1)
 
-some_later : {A : Type 0} (P Q : A → Type 0) (each : (x : A) → P x → Q x) (x : Option A) → IfSome x P → IfSome x Q
+pub some_later : {A : Type 0} (P Q : A → Type 0) (each : (x : A) → P x → Q x) (x : Option A) → IfSome x P → IfSome x Q
 some_later P Q each None is = tt
 some_later P Q each (Some x) is = each x is
 

@@ -1,3 +1,6 @@
 pub mod Goes
 pub mod Later
+pub mod Noted
+pub mod Noting
+pub mod Spelling
 pub mod StringLemmas

@@ -11,7 +11,7 @@ use Rattle.std.specs.declared.vec.Vec.{Vec}
 use Rattle.std.specs.Str.{bytes_eq}
 use Rattle.std.proofs.lemmas.List.{append-nil, length-map, map-append}
 use Rattle.indexmap.specs.IndexSet.{insert_key}
-use Rattle.code_emit.specs.Strings.{with_string}
+use Rattle.code_emit.specs.Strings.{Table, with_string}
 use Rattle.code_emit.specs.Writing.{GoesOn}
 
 -- what is held, as lists
@@ -38,12 +38,14 @@ shown-insert_key ks k =
 pub found_string : (strings : List (List ℕ)) (string : List ℕ) → list_any (bytes_eq string) strings ≡ true → strings ≡ with_string strings string
 found_string strings string found = sym (ap (λ (b : Bool). cond b strings (strings ++ string ∷ [])) found)
 
-goes_either : (b : Bool) (strings : List (List ℕ)) (string : List ℕ) → GoesOn strings (cond b strings (strings ++ string ∷ []))
-goes_either true strings string = record { added = []; strings = sym (append-nil strings) }
-goes_either false strings string = record { added = string ∷ []; strings = refl }
+goes_either : (b : Bool) (strings : List (List ℕ)) (string : List ℕ) → (added : List (List ℕ)) × (cond b strings (strings ++ string ∷ []) ≡ strings ++ added)
+goes_either true strings string = ([], sym (append-nil strings))
+goes_either false strings string = (string ∷ [], refl)
 
-pub with_string_goes : (strings : List (List ℕ)) (string : List ℕ) → GoesOn strings (with_string strings string)
-with_string_goes strings string = goes_either (list_any (bytes_eq string) strings) strings string
+pub with_string_goes : (old new : Table) (string : List ℕ) → new.home ≡ old.home → new.strings ≡ with_string old.strings string → GoesOn old new
+with_string_goes old new string home is =
+    let more = goes_either (list_any (bytes_eq string) old.strings) old.strings string in
+    record { home = home; added = more.0; strings = is ∙ more.1 }
 
 -- ---- where a string stands
 position_or_len-shown : (string : List ℕ) (ks : List (Vec ℕ Global)) → position_or_len (λ k. bytes_eq string k.items) ks ≡ position_or_len (bytes_eq string) (shown ks)

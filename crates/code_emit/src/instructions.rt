@@ -1,54 +1,59 @@
 // Instructions as the file has them: for each form its opcode and its operands, in their order.
 #![tactic(auto, using(crate::proofs::Goes::going))]
 
-ghost use Rattle.std.specs.Prelude.{◌≡◌, Some, true, false, length, IfOk};
+ghost use Rattle.std.specs.Prelude.{◌≡◌, [], Some, true, false, length, IfOk};
 ghost use Rattle.std.specs.List.{AllByRecursion};
 ghost use Rattle.pex_values.specs.Opcodes.{operands_of};
 ghost use Rattle.pex_values.specs.Plain.{plain_instruction};
-ghost use Rattle.pex_values.specs.Shape.{ArePair, IsShapedDatum, IsShapedInstruction};
+ghost use Rattle.pex_values.specs.Shape.{ArePair, IsShapedInstruction};
+ghost use Rattle.code_emit.specs.Spelled.{SpellsForm, SpellsInstruction, given, unary_code, binary_code, search_code, jump_code};
 ghost use Rattle.code_emit.specs.Writing.{GoesOn};
 
 use crate::faults::Result;
-use crate::operands::{place_data, place_datum};
-use crate::strings::Numbered;
-use crate::writer::Writer;
+use crate::operands::{Operand, operand_data, place_data};
+use crate::strings::StringTable;
 use code_lower::{Binary, Coded, Place, Search, Unary};
-use core_tree::CoreType;
-use papy_base::Name;
 use pex_values::{
     ARRAY_CREATE, ARRAY_FINDELEMENT, ARRAY_GETELEMENT, ARRAY_LENGTH, ARRAY_RFINDELEMENT,
     ARRAY_SETELEMENT, ASSIGN, CALL_METHOD, CALL_PARENT, CALL_STATIC, CAST, CMP_EQ, CMP_GE, CMP_GT,
-    CMP_LE, CMP_LT, Datum, IADD, IDIV, IMOD, IMUL, INEG, ISUB, Instruction, JMP, JMPF, JMPT, NOT,
-    PROPGET, PROPSET, RETURN, STRCAT,
+    CMP_LE, CMP_LT, IADD, IDIV, IMOD, IMUL, INEG, ISUB, Instruction, JMP, JMPF, JMPT, NOT, PROPGET,
+    PROPSET, RETURN, STRCAT,
 };
 
 /// The instruction of a function whose slots have these names and types.
 pub(crate) fn instruction(
-    writer: &mut Writer<'_>,
+    strings: &mut StringTable<'_>,
     slots: &[(u16, u16)],
     coded: &Coded<'_>,
 ) -> Result<Instruction>
-    requires { AllByRecursion (ArePair (length writer.old)) slots.now }
-    ensures instruction { IfOk result (λ i. IsShapedInstruction (length writer.new) (plain_instruction i)) }
-    ensures goes { GoesOn writer.old writer.new }
+    requires { AllByRecursion (ArePair (length strings.old.strings)) slots.now }
+    ensures instruction { IfOk result (λ i. IsShapedInstruction (length strings.new.strings) (plain_instruction i)) }
+    ensures spelled { IfOk result (λ i. SpellsInstruction (record { table = strings.new; slots = slots.now }) (plain_instruction i) coded.now) }
+    ensures goes { GoesOn strings.old strings.new }
 {
+    use Operand::{At, Member, Number, Script};
     match coded {
         Coded::Unary { opcode, result, of } => {
-            two(writer, slots, unary_opcode(*opcode), *result, *of)
+            fixed(
+                strings,
+                slots,
+                unary_opcode(*opcode),
+                &[At(*result), At(*of)],
+            )
         }
         Coded::Binary {
             opcode,
             result,
             left,
             right,
-        } => three(
-            writer,
-            slots,
-            binary_opcode(*opcode),
-            *result,
-            *left,
-            *right,
-        ),
+        } => {
+            fixed(
+                strings,
+                slots,
+                binary_opcode(*opcode),
+                &[At(*result), At(*left), At(*right)],
+            )
+        }
         Coded::Search {
             opcode,
             array,
@@ -56,60 +61,118 @@ pub(crate) fn instruction(
             searched,
             start,
         } => {
-            let opcode = search_opcode(*opcode);
-            four(writer, slots, opcode, *array, *result, *searched, *start)
+            fixed(
+                strings,
+                slots,
+                search_opcode(*opcode),
+                &[At(*array), At(*result), At(*searched), At(*start)],
+            )
         }
         Coded::NewArray { result, count } => {
-            with_number(writer, slots, ARRAY_CREATE, *result, i32::from(*count))
+            fixed(
+                strings,
+                slots,
+                ARRAY_CREATE,
+                &[At(*result), Number(i32::from(*count))],
+            )
         }
-        Coded::PropGet { name, of, result } => named(writer, slots, PROPGET, name, *of, *result),
-        Coded::PropSet { name, of, value } => named(writer, slots, PROPSET, name, *of, *value),
+        Coded::PropGet { name, of, result } => {
+            fixed(
+                strings,
+                slots,
+                PROPGET,
+                &[Member(name), At(*of), At(*result)],
+            )
+        }
+        Coded::PropSet { name, of, value } => {
+            fixed(
+                strings,
+                slots,
+                PROPSET,
+                &[Member(name), At(*of), At(*value)],
+            )
+        }
         Coded::SetElement {
             array,
             index,
             value,
-        } => three(writer, slots, ARRAY_SETELEMENT, *array, *index, *value),
-        Coded::Return { value } => give(writer, slots, value),
+        } => {
+            fixed(
+                strings,
+                slots,
+                ARRAY_SETELEMENT,
+                &[At(*array), At(*index), At(*value)],
+            )
+        }
+        Coded::Return { value } => fixed(strings, slots, RETURN, &[given(value)]),
         Coded::CallMethod {
             name,
             of,
             result,
             more,
-        } => call_method(writer, slots, name, *of, *result, more),
+        } => {
+            call(
+                strings,
+                slots,
+                CALL_METHOD,
+                &[Member(name), At(*of), At(*result)],
+                more,
+            )
+        }
         Coded::CallParent { name, result, more } => {
-            call_parent(writer, slots, name, *result, more)
+            call(
+                strings,
+                slots,
+                CALL_PARENT,
+                &[Member(name), At(*result)],
+                more,
+            )
         }
         Coded::CallStatic {
             script,
             name,
             result,
             more,
-        } => call_static(writer, slots, *script, name, *result, more),
-        Coded::Jump { offset } => jump(writer, *offset),
+        } => {
+            call(
+                strings,
+                slots,
+                CALL_STATIC,
+                &[Script(*script), Member(name), At(*result)],
+                more,
+            )
+        }
+        Coded::Jump { offset } => fixed(strings, slots, JMP, &[Number(*offset)]),
         Coded::JumpIf {
             decided,
             condition,
             offset,
-        } => with_number(writer, slots, jump_opcode(*decided), *condition, *offset),
+        } => {
+            fixed(
+                strings,
+                slots,
+                jump_opcode(*decided),
+                &[At(*condition), Number(*offset)],
+            )
+        }
     }
 }
 
-fn two(
-    writer: &mut Writer<'_>,
+// An instruction that always has as many operands.
+fn fixed(
+    strings: &mut StringTable<'_>,
     slots: &[(u16, u16)],
     opcode: u8,
-    first: Place<'_>,
-    second: Place<'_>,
+    operands: &[Operand<'_>],
 ) -> Result<Instruction>
-    requires slots { AllByRecursion (ArePair (length writer.old)) slots.now }
-    requires opcode { operands_of opcode ≡ Some (2, false) }
-    ensures instruction { IfOk result (λ i. IsShapedInstruction (length writer.new) (plain_instruction i)) }
-    ensures goes { GoesOn writer.old writer.new }
+    requires slots { AllByRecursion (ArePair (length strings.old.strings)) slots.now }
+    requires opcode { operands_of opcode ≡ Some (length operands.now, false) }
+    ensures instruction { IfOk result (λ i. IsShapedInstruction (length strings.new.strings) (plain_instruction i)) }
+    ensures spelled { IfOk result (λ i. SpellsForm (record { table = strings.new; slots = slots.now }) (plain_instruction i) (record { opcode = opcode; fixed = operands.now; more = [] })) }
+    ensures goes { GoesOn strings.old strings.new }
 {
-    let first = place_datum(writer, slots, first)?;
-    let second = place_datum(writer, slots, second)?;
-    let fixed = vec![in writer.alloc(); first, second]?;
-    let more = Vec::new(writer.alloc());
+    let fixed = operand_data(strings, slots, operands)?;
+    let more = Vec::new(strings.alloc());
     Ok(Instruction {
         opcode,
         fixed,
@@ -117,232 +180,44 @@ fn two(
     })
 }
 
-fn three(
-    writer: &mut Writer<'_>,
+// A call, with its arguments.
+fn call(
+    strings: &mut StringTable<'_>,
     slots: &[(u16, u16)],
     opcode: u8,
-    first: Place<'_>,
-    second: Place<'_>,
-    third: Place<'_>,
+    operands: &[Operand<'_>],
+    arguments: &[Place<'_>],
 ) -> Result<Instruction>
-    requires slots { AllByRecursion (ArePair (length writer.old)) slots.now }
-    requires opcode { operands_of opcode ≡ Some (3, false) }
-    ensures instruction { IfOk result (λ i. IsShapedInstruction (length writer.new) (plain_instruction i)) }
-    ensures goes { GoesOn writer.old writer.new }
+    requires slots { AllByRecursion (ArePair (length strings.old.strings)) slots.now }
+    requires opcode { operands_of opcode ≡ Some (length operands.now, true) }
+    ensures instruction { IfOk result (λ i. IsShapedInstruction (length strings.new.strings) (plain_instruction i)) }
+    ensures spelled { IfOk result (λ i. SpellsForm (record { table = strings.new; slots = slots.now }) (plain_instruction i) (record { opcode = opcode; fixed = operands.now; more = arguments.now })) }
+    ensures goes { GoesOn strings.old strings.new }
 {
-    let first = place_datum(writer, slots, first)?;
-    let second = place_datum(writer, slots, second)?;
-    let third = place_datum(writer, slots, third)?;
-    let fixed = vec![in writer.alloc(); first, second, third]?;
-    let more = Vec::new(writer.alloc());
+    let fixed = operand_data(strings, slots, operands)?;
+    let more = place_data(strings, slots, arguments)?;
     Ok(Instruction {
         opcode,
-        fixed,
-        more,
-    })
-}
-
-fn four(
-    writer: &mut Writer<'_>,
-    slots: &[(u16, u16)],
-    opcode: u8,
-    first: Place<'_>,
-    second: Place<'_>,
-    third: Place<'_>,
-    fourth: Place<'_>,
-) -> Result<Instruction>
-    requires slots { AllByRecursion (ArePair (length writer.old)) slots.now }
-    requires opcode { operands_of opcode ≡ Some (4, false) }
-    ensures instruction { IfOk result (λ i. IsShapedInstruction (length writer.new) (plain_instruction i)) }
-    ensures goes { GoesOn writer.old writer.new }
-{
-    let first = place_datum(writer, slots, first)?;
-    let second = place_datum(writer, slots, second)?;
-    let third = place_datum(writer, slots, third)?;
-    let fourth = place_datum(writer, slots, fourth)?;
-    let fixed = vec![in writer.alloc(); first, second, third, fourth]?;
-    let more = Vec::new(writer.alloc());
-    Ok(Instruction {
-        opcode,
-        fixed,
-        more,
-    })
-}
-
-// An operand, and the offset of a jump or the size of an array.
-fn with_number(
-    writer: &mut Writer<'_>,
-    slots: &[(u16, u16)],
-    opcode: u8,
-    place: Place<'_>,
-    number: i32,
-) -> Result<Instruction>
-    requires slots { AllByRecursion (ArePair (length writer.old)) slots.now }
-    requires opcode { operands_of opcode ≡ Some (2, false) }
-    ensures instruction { IfOk result (λ i. IsShapedInstruction (length writer.new) (plain_instruction i)) }
-    ensures goes { GoesOn writer.old writer.new }
-{
-    let place = place_datum(writer, slots, place)?;
-    let fixed = vec![in writer.alloc(); place, Datum::Int(number)]?;
-    let more = Vec::new(writer.alloc());
-    Ok(Instruction {
-        opcode,
-        fixed,
-        more,
-    })
-}
-
-// The use of a property of an instance.
-fn named(
-    writer: &mut Writer<'_>,
-    slots: &[(u16, u16)],
-    opcode: u8,
-    name: &Name,
-    of: Place<'_>,
-    place: Place<'_>,
-) -> Result<Instruction>
-    requires slots { AllByRecursion (ArePair (length writer.old)) slots.now }
-    requires opcode { operands_of opcode ≡ Some (3, false) }
-    ensures instruction { IfOk result (λ i. IsShapedInstruction (length writer.new) (plain_instruction i)) }
-    ensures goes { GoesOn writer.old writer.new }
-{
-    let name = Datum::Word(writer.string(name.as_bytes())?);
-    let of = place_datum(writer, slots, of)?;
-    let place = place_datum(writer, slots, place)?;
-    let fixed = vec![in writer.alloc(); name, of, place]?;
-    let more = Vec::new(writer.alloc());
-    Ok(Instruction {
-        opcode,
-        fixed,
-        more,
-    })
-}
-
-fn jump(writer: &mut Writer<'_>, offset: i32) -> Result<Instruction>
-    ensures instruction { IfOk result (λ i. IsShapedInstruction (length writer.new) (plain_instruction i)) }
-    ensures goes { GoesOn writer.old writer.new }
-{
-    let fixed = vec![in writer.alloc(); Datum::Int(offset)]?;
-    let more = Vec::new(writer.alloc());
-    Ok(Instruction {
-        opcode: JMP,
-        fixed,
-        more,
-    })
-}
-
-fn give(
-    writer: &mut Writer<'_>,
-    slots: &[(u16, u16)],
-    value: &Option<Place<'_>>,
-) -> Result<Instruction>
-    requires { AllByRecursion (ArePair (length writer.old)) slots.now }
-    ensures instruction { IfOk result (λ i. IsShapedInstruction (length writer.new) (plain_instruction i)) }
-    ensures goes { GoesOn writer.old writer.new }
-{
-    let value = given(writer, slots, value)?;
-    let fixed = vec![in writer.alloc(); value]?;
-    let more = Vec::new(writer.alloc());
-    Ok(Instruction {
-        opcode: RETURN,
         fixed,
         more,
     })
 }
 
 // What a return gives, which without a value is None.
-fn given(writer: &mut Writer<'_>, slots: &[(u16, u16)], value: &Option<Place<'_>>) -> Result<Datum>
-    requires { AllByRecursion (ArePair (length writer.old)) slots.now }
-    ensures datum { IfOk result (IsShapedDatum (length writer.new)) }
-    ensures goes { GoesOn writer.old writer.new }
+fn given<'a>(value: &Option<Place<'a>>) -> Operand<'a>
+    ensures { result ≡ given value.now }
 {
     match value {
-        Some(value) => place_datum(writer, slots, *value),
-        None => Ok(Datum::NoneValue),
+        Some(value) => Operand::At(*value),
+        None => Operand::Nothing,
     }
-}
-
-// ---- calls, each with its arguments
-
-fn call_method(
-    writer: &mut Writer<'_>,
-    slots: &[(u16, u16)],
-    name: &Name,
-    of: Place<'_>,
-    place: Place<'_>,
-    more: &[Place<'_>],
-) -> Result<Instruction>
-    requires { AllByRecursion (ArePair (length writer.old)) slots.now }
-    ensures instruction { IfOk result (λ i. IsShapedInstruction (length writer.new) (plain_instruction i)) }
-    ensures goes { GoesOn writer.old writer.new }
-{
-    let name = Datum::Word(writer.string(name.as_bytes())?);
-    let of = place_datum(writer, slots, of)?;
-    let place = place_datum(writer, slots, place)?;
-    let fixed = vec![in writer.alloc(); name, of, place]?;
-    let more = place_data(writer, slots, more)?;
-    Ok(Instruction {
-        opcode: CALL_METHOD,
-        fixed,
-        more,
-    })
-}
-
-fn call_parent(
-    writer: &mut Writer<'_>,
-    slots: &[(u16, u16)],
-    name: &Name,
-    place: Place<'_>,
-    more: &[Place<'_>],
-) -> Result<Instruction>
-    requires { AllByRecursion (ArePair (length writer.old)) slots.now }
-    ensures instruction { IfOk result (λ i. IsShapedInstruction (length writer.new) (plain_instruction i)) }
-    ensures goes { GoesOn writer.old writer.new }
-{
-    let name = Datum::Word(writer.string(name.as_bytes())?);
-    let place = place_datum(writer, slots, place)?;
-    let fixed = vec![in writer.alloc(); name, place]?;
-    let more = place_data(writer, slots, more)?;
-    Ok(Instruction {
-        opcode: CALL_PARENT,
-        fixed,
-        more,
-    })
-}
-
-fn call_static(
-    writer: &mut Writer<'_>,
-    slots: &[(u16, u16)],
-    script: u16,
-    name: &Name,
-    place: Place<'_>,
-    more: &[Place<'_>],
-) -> Result<Instruction>
-    requires { AllByRecursion (ArePair (length writer.old)) slots.now }
-    ensures instruction { IfOk result (λ i. IsShapedInstruction (length writer.new) (plain_instruction i)) }
-    ensures goes { GoesOn writer.old writer.new }
-{
-    let script = Datum::Word(writer.numbered(script_name(script))?);
-    let name = Datum::Word(writer.string(name.as_bytes())?);
-    let place = place_datum(writer, slots, place)?;
-    let fixed = vec![in writer.alloc(); script, name, place]?;
-    let more = place_data(writer, slots, more)?;
-    Ok(Instruction {
-        opcode: CALL_STATIC,
-        fixed,
-        more,
-    })
-}
-
-// The name of the script of this number.
-fn script_name(number: u16) -> Numbered {
-    Numbered::Type(Some(CoreType::Script(number)))
 }
 
 // ---- opcodes
 
 fn unary_opcode(opcode: Unary) -> u8
-    ensures { operands_of result ≡ Some (2, false) }
+    ensures operands { operands_of result ≡ Some (2, false) }
+    ensures code { result ≡ unary_code opcode }
 {
     match opcode {
         Unary::Not => NOT,
@@ -354,7 +229,8 @@ fn unary_opcode(opcode: Unary) -> u8
 }
 
 fn binary_opcode(opcode: Binary) -> u8
-    ensures { operands_of result ≡ Some (3, false) }
+    ensures operands { operands_of result ≡ Some (3, false) }
+    ensures code { result ≡ binary_code opcode }
 {
     match opcode {
         Binary::IAdd => IADD,
@@ -373,7 +249,8 @@ fn binary_opcode(opcode: Binary) -> u8
 }
 
 fn search_opcode(opcode: Search) -> u8
-    ensures { operands_of result ≡ Some (4, false) }
+    ensures operands { operands_of result ≡ Some (4, false) }
+    ensures code { result ≡ search_code opcode }
 {
     match opcode {
         Search::First => ARRAY_FINDELEMENT,
@@ -382,7 +259,8 @@ fn search_opcode(opcode: Search) -> u8
 }
 
 fn jump_opcode(decided: bool) -> u8
-    ensures { operands_of result ≡ Some (2, false) }
+    ensures operands { operands_of result ≡ Some (2, false) }
+    ensures code { result ≡ jump_code decided }
 {
     if decided { JMPT } else { JMPF }
 }

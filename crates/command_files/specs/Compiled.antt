@@ -16,7 +16,7 @@ pub record AreFilesOf (values : List Pex) (files : List (List ℕ)) : Type 0 whe
   pub valid : All IsFile values
   pub bytes : files ≡ map spelled values
 
--- so many files, with the bytes of the values that were loaded
+-- so many files, with the bytes of the values that were judged
 pub record HasFiles (count : ℕ) (set : CompiledSet) : Type 0 where
-  pub number : length set.loaded.files ≡ count
-  pub files : AreFilesOf set.loaded.files (map bytes_of set.files.items)
+  pub number : length set.judged.files ≡ count
+  pub files : AreFilesOf set.judged.files (map bytes_of set.files.items)

@@ -11,14 +11,14 @@ use code_emit::emit;
 use core_tree::CoreSet;
 use pex_codec::encode;
 use pex_values::Pex;
-use pex_verify::{Loaded, verify};
+use pex_verify::{JudgedFiles, judge};
 use std::alloc::Global;
 
 /// The compiled files of a set of scripts, one for each script, in the order of the scripts.
 #[derive(Drop)]
 pub struct CompiledSet {
     /// The values of the files, which break no rule of files that run together.
-    pub loaded: Loaded,
+    pub judged: JudgedFiles,
     /// The bytes that spell each value.
     pub files: Vec<Vec<u8>>,
 }
@@ -50,6 +50,6 @@ pub fn compile_set(alloc: Global, set: &CoreSet) -> Result<CompiledSet, CompileF
 {
     let values = emit(alloc, set)?;
     let files = encode_each(alloc, &values)?;
-    let loaded = verify(alloc, values)?;
-    Ok(CompiledSet { loaded, files })
+    let judged = judge(alloc, values)?;
+    Ok(CompiledSet { judged, files })
 }

@@ -28,6 +28,12 @@ waits_for Resting = None
 waits_for Free = None
 waits_for (Holds instance) = None
 
+abbrev pub rests : Seat → Bool
+rests Resting = true
+rests Free = false
+rests (Waits instance) = false
+rests (Holds instance) = false
+
 -- it holds nothing and waits for nothing
 abbrev pub IsIdle : Seat → Type 0
 IsIdle seat = (held_by seat ≡ None) × (waits_for seat ≡ None)

@@ -2,7 +2,7 @@
 
 ghost use Rattle.std.specs.Prelude.{◌≡◌, ◌<◌, ◌++◌, ◌∷◌, [], ◌&&◌, ℕ, Some, is_none, IfOk, IsSome, IsTrue, length, replicate, slice_set};
 ghost use Rattle.std.specs.Option.{ForSome};
-ghost use Rattle.lock_queue.specs.LockTable.{IsIdle, seat_of, held_by, waits_for, owner_of, pairs_of, pairs_if, may_take, without_stack, waiter_after, ready_after, start_after};
+ghost use Rattle.lock_queue.specs.LockTable.{IsIdle, seat_of, held_by, waits_for, owner_of, pairs_of, pairs_if, may_take, rests, without_stack, waiter_after, ready_after, start_after};
 
 use crate::queues::{Queues, StackList};
 use crate::ready::ReadySet;
@@ -155,6 +155,19 @@ impl Locks {
         match self.seats[usize::from(stack)] {
             Seat::Holds(instance) => Some(instance),
             _ => None,
+        }
+    }
+
+    /// Whether a stack rests.
+    pub fn rests(&self, stack: u16) -> bool
+        requires { stack < length self.now.seats }
+        ensures { result ≡ rests (seat_of self.now stack) }
+    {
+        match self.seats[usize::from(stack)] {
+            Seat::Resting => true,
+            Seat::Free => false,
+            Seat::Waits(_) => false,
+            Seat::Holds(_) => false,
         }
     }
 

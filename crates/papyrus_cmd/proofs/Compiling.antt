@@ -16,8 +16,8 @@ use Rattle.papyrus_cmd.specs.Written.{WritesEach}
 -- a file for each script
 pub have_files : (count : ℕ) (scripts : List (String Global)) (set : CompiledSet) → count ≡ length scripts → HasFiles count set → HaveFiles (map string_bytes scripts) (map bytes_of set.files.items)
 have_files count scripts set counted has = record {
-  values = set.loaded.files;
-  one_each = ap length has.files.bytes ∙ length-map set.loaded.files spelled ∙ has.number ∙ counted ∙ sym (length-map scripts string_bytes);
+  values = set.judged.files;
+  one_each = ap length has.files.bytes ∙ length-map set.judged.files spelled ∙ has.number ∙ counted ∙ sym (length-map scripts string_bytes);
   spelled = has.files;
 }
 

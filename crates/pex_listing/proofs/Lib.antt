@@ -11,3 +11,7 @@ pub mod OneLine
 pub mod OnePart
 pub mod OneValue
 pub mod Unbroken
+pub mod Leaving
+pub mod FieldRules
+pub mod StringRules
+pub mod Opening

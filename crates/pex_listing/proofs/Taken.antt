@@ -74,21 +74,21 @@ pub begun_more : {text fields : List ℕ} {m n : ℕ} {first between new : Listi
 begun_more {text} {fields} {m} {n} {first} {between} {new} begun takes = record {
   read = λ good.
       begun.read (takes.good good)
-      ∙ (ap (λ t. text ++ (t ++ 10 ∷ between.rest.now)) (takes.taken good)
+      ∙ (ap (λ t. text ++ (t ++ 10 ∷ between.rest.bytes.now)) (takes.taken good)
       ∙ (ap (λ t. text ++ ((fields ++ fields_left new) ++ 10 ∷ t)) (sym takes.rest)
-      ∙ (ap (λ t. text ++ t) (append_assoc fields (fields_left new) (10 ∷ new.rest.now)) ∙ sym (append_assoc text fields (behind new)))));
+      ∙ (ap (λ t. text ++ t) (append_assoc fields (fields_left new) (10 ∷ new.rest.bytes.now)) ∙ sym (append_assoc text fields (behind new)))));
   room = λ good. omega (arith, begun.room (takes.good good), takes.room good);
 }
 
 pub begun_spent : {text : List ℕ} {m n : ℕ} {first between new : Listing} → Begun text m first between → Spends n between new → Begun text (m + n) first new
 begun_spent {text} {m} {n} {first} {between} {new} begun spend = record {
-  read = λ good. begun.read (spend.good good) ∙ (ap (λ t. text ++ (t ++ 10 ∷ between.rest.now)) (sym spend.fields) ∙ ap (λ t. text ++ (fields_left new ++ 10 ∷ t)) (sym spend.rest));
+  read = λ good. begun.read (spend.good good) ∙ (ap (λ t. text ++ (t ++ 10 ∷ between.rest.bytes.now)) (sym spend.fields) ∙ ap (λ t. text ++ (fields_left new ++ 10 ∷ t)) (sym spend.rest));
   room = λ good. omega (arith, begun.room (spend.good good), spend.room good);
 }
 
 pub begun_noted : {text : List ℕ} {m : ℕ} {holds : Bool} {first between new : Listing} → Begun text m first between → Notes holds between new → Begun text m first new
 begun_noted {text} {m} {holds} {first} {between} {new} begun note = record {
-  read = λ good. begun.read (note.good good) ∙ (ap (λ t. text ++ (t ++ 10 ∷ between.rest.now)) (sym note.fields) ∙ ap (λ t. text ++ (fields_left new ++ 10 ∷ t)) (sym note.rest));
+  read = λ good. begun.read (note.good good) ∙ (ap (λ t. text ++ (t ++ 10 ∷ between.rest.bytes.now)) (sym note.fields) ∙ ap (λ t. text ++ (fields_left new ++ 10 ∷ t)) (sym note.rest));
   room = λ good. omega (arith, begun.room (note.good good), note.room);
 }
 
@@ -96,7 +96,7 @@ pub ended : {text : List ℕ} {m : ℕ} {first last new : Listing} → Begun tex
 ended {text} {m} {first} {last} {new} begun ends = record {
   read =
       begun.read ends.good
-      ∙ (ap (λ t. text ++ (t ++ 10 ∷ last.rest.now)) ends.last
+      ∙ (ap (λ t. text ++ (t ++ 10 ∷ last.rest.bytes.now)) ends.last
       ∙ (ap (λ t. text ++ 10 ∷ t) (sym ends.opened) ∙ sym (append_assoc text (10 ∷ []) (text_left new))));
   room = omega (arith, begun.room ends.good, ends.room);
 }

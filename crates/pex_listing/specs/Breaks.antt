@@ -1,8 +1,8 @@
 -- The first line of a text that breaks a rule of listings, with that rule. What may stand in a line is told by the lines before it.
-use Rattle.std.specs.Prelude.{ℕ, suc, ◌+◌, ◌*◌, Bool, false, List, [], ◌∷◌, ◌++◌, ◌==◌, ◌&&◌, ◌||◌, not, nat_lt, nat_le, length, take, drop, codes, Option, Some, None, is_some, ℤ, pos, negsuc, neg_ℤ, if◌then◌else◌}
+use Rattle.std.specs.Prelude.{ℕ, zero, suc, ◌+◌, ◌-◌, ◌*◌, Bool, true, false, List, [], ◌∷◌, ◌++◌, ◌==◌, ◌&&◌, ◌||◌, not, nat_lt, nat_le, length, drop, codes, Option, Some, None, unwrap_or, ℤ, pos, negsuc, neg_ℤ, if◌then◌else◌}
 use Rattle.std.specs.Char.{digit_value, is_ascii_uppercase}
 use Rattle.std.specs.Fmt.{decimal, signed_decimal}
-use Rattle.std.specs.List.{list_all, position}
+use Rattle.std.specs.List.{list_all, list_any, position}
 use Rattle.std.specs.Str.{bytes_eq}
 use Rattle.std.specs.Str.Parse.{digits_value}
 use Rattle.pex_values.specs.Bits.{has_read, has_variable, has_write}
@@ -17,13 +17,23 @@ use Rattle.pex_listing.specs.declared.faults.ListingRule.TheVariants.{BadLine, N
 
 -- of two rules of one line the one that is told
 abbrev pub worse : Option ListingRule → Option ListingRule → Option ListingRule
-worse (Some BadLine) b = Some BadLine
-worse (Some BadName) (Some BadLine) = Some BadLine
-worse (Some BadName) b = Some BadName
 worse None b = b
+worse (Some BadLine) b = Some BadLine
+worse (Some BadName) None = Some BadName
+worse (Some BadName) (Some BadLine) = Some BadLine
+worse (Some BadName) (Some BadName) = Some BadName
+worse (Some BadName) (Some NotCanonical) = Some BadName
+worse (Some BadName) (Some End) = Some BadName
 worse (Some NotCanonical) None = Some NotCanonical
-worse (Some NotCanonical) (Some b) = Some b
-worse (Some End) b = Some End
+worse (Some NotCanonical) (Some BadLine) = Some BadLine
+worse (Some NotCanonical) (Some BadName) = Some BadName
+worse (Some NotCanonical) (Some NotCanonical) = Some NotCanonical
+worse (Some NotCanonical) (Some End) = Some NotCanonical
+worse (Some End) None = Some End
+worse (Some End) (Some BadLine) = Some BadLine
+worse (Some End) (Some BadName) = Some BadName
+worse (Some End) (Some NotCanonical) = Some NotCanonical
+worse (Some End) (Some End) = Some End
 
 -- a field of the right form is judged by the one spelling of what it spells
 abbrev pub unless_spelled : List ℕ → List ℕ → Option ListingRule
@@ -37,10 +47,20 @@ front (b ∷ t) = b
 abbrev pub written : List ℕ → Option ℤ
 written text = if are_digits text then Some (pos (digits_value 10 text)) else (if front text == 45 && are_digits (drop 1 text) then Some (neg_ℤ (pos (digits_value 10 (drop 1 text)))) else None)
 
+-- the number that such a field gives
+abbrev pub number_by_value : Option ℤ → ℕ
+number_by_value (Some (pos n)) = n
+number_by_value (Some (negsuc n)) = 0
+number_by_value None = 0
+
+abbrev pub number_in : List ℕ → ℕ
+number_in text = number_by_value (written text)
+
 -- a number from the least to the most
 abbrev pub number_by : ℕ → ℕ → List ℕ → Option ℤ → Option ListingRule
 number_by least most text (Some (pos n)) = if nat_le least n && nat_le n most then unless_spelled text (decimal n) else Some BadLine
-number_by least most text _ = Some BadLine
+number_by least most text (Some (negsuc n)) = Some BadLine
+number_by least most text None = Some BadLine
 
 abbrev pub number_rule : ℕ → ℕ → List ℕ → Option ListingRule
 number_rule least most text = number_by least most text (written text)
@@ -99,15 +119,246 @@ string_in text = if front text == 34 then unquoted AtByte (drop 1 text) else Non
 
 -- ---- lines
 
--- a line: its first word and the rank of this word, its string, the words of the functions that must follow it, the bytes that it and these
--- take of a file, and the rule that its fields break
-pub record Line : Type 0 where
-  pub word : List ℕ
-  pub rank : ℕ
-  pub text : List ℕ
-  pub asked : List (List ℕ)
+-- what may stand behind the lines that were read: a line with one of these words, which must come, or further lines with one of these
+-- words, behind so many of them
+pub data Awaited : Type 0 where
+  One : List (List ℕ) → Awaited
+  Many : List (List ℕ) → ℕ → Awaited
+
+abbrev pub any_number_of : List ℕ → Awaited
+any_number_of word = Many (word ∷ []) 0
+
+-- what the fields of a line are: the bytes that the line takes of a file, the rule that they break, what may stand right behind the line,
+-- and the strings that it adds to the table
+pub record Found : Type 0 where
   pub bytes : ℕ
   pub rule : Option ListingRule
+  pub inside : List Awaited
+  pub added : List (List ℕ)
+
+-- by the fields that are left in a line
+abbrev pub Form : Type 0
+Form = List (List ℕ) → Found
+
+abbrev pub bad : Found
+bad = record { bytes = 0; rule = Some BadLine; inside = []; added = [] }
+
+-- no further field
+abbrev pub done : List Awaited → List (List ℕ) → Form
+done inside added [] = record { bytes = 0; rule = None; inside = inside; added = added }
+done inside added (f ∷ fs) = bad
+
+abbrev pub judged : Option ListingRule → Found → Found
+judged rule x = record { bytes = x.bytes; rule = worse rule x.rule; inside = x.inside; added = x.added }
+
+-- so many bytes beside those of the fields
+abbrev pub paid : ℕ → Form → Form
+paid bytes form fields = record { bytes = bytes + (form fields).bytes; rule = (form fields).rule; inside = (form fields).inside; added = (form fields).added }
+
+-- a field, and those behind it
+abbrev pub a_field : (List ℕ → Option ListingRule) → Form → Form
+a_field test form [] = bad
+a_field test form (f ∷ fs) = judged (test f) (form fs)
+
+-- a number from the least to the most, which may tell what is behind it
+abbrev pub a_number : ℕ → ℕ → (ℕ → Form) → Form
+a_number least most form [] = bad
+a_number least most form (f ∷ fs) = judged (number_rule least most f) (form (number_in f) fs)
+
+abbrev pub a_byte : Form → Form
+a_byte form = a_number 0 255 (λ _. form)
+
+abbrev pub some_flags : Form → Form
+some_flags form = a_number 0 4294967295 (λ _. form)
+
+abbrev pub a_time : Form → Form
+a_time form = a_number 0 18446744073709551615 (λ _. form)
+
+-- so many numbers at most, up to the end of the line
+unfoldable pub numbers : ℕ → Form
+numbers zero fields = done [] [] fields
+numbers (suc n) [] = done [] [] []
+numbers (suc n) (f ∷ fs) = paid 2 (a_number 0 65535 (λ _. numbers n)) (f ∷ fs)
+
+abbrev pub size_rule : List ℕ → Option ListingRule
+size_rule text = if bytes_eq text (codes "counted") || bytes_eq text (codes "bare") then None else Some BadLine
+
+-- a string behind the first word, which has all the rest of the line
+abbrev pub string_by : (List ℕ → List (List ℕ)) → List ℕ → Option (List ℕ) → Found
+string_by adds text None = bad
+string_by adds text (Some s) = record { bytes = length s; rule = if nat_lt (length s) 65536 then unless_spelled text (quoted s) else Some BadLine; inside = []; added = adds s }
+
+abbrev pub a_string : (List ℕ → List (List ℕ)) → List ℕ → Form
+a_string adds text fields = string_by adds text (string_in text)
+
+abbrev pub not_added : List ℕ → List (List ℕ)
+not_added text = []
+
+abbrev pub is_added : List ℕ → List (List ℕ)
+is_added text = text ∷ []
+
+-- the lines behind the one that a function begins with
+abbrev pub function_lines : List Awaited
+function_lines = any_number_of (codes "param") ∷ any_number_of (codes "local") ∷ Many opcode_names 0 ∷ []
+
+abbrev pub object_lines : List Awaited
+object_lines = any_number_of (codes "variable") ∷ any_number_of (codes "property") ∷ any_number_of (codes "state") ∷ []
+
+-- the functions that must follow a property of these bits
+abbrev pub asked : Bool → List ℕ → List Awaited
+asked true word = One (word ∷ []) ∷ []
+asked false word = []
+
+abbrev pub least_bytes : Bool → ℕ
+least_bytes true = 15
+least_bytes false = 0
+
+abbrev pub accessor_lines : ℕ → List Awaited
+accessor_lines bits = asked (has_read bits) (codes "read") ++ asked (has_write bits) (codes "write")
+
+-- in a value with these strings
+module _ (strings : List (List ℕ)) where
+  abbrev pub a_name : Form → Form
+  a_name = a_field (reference_rule strings)
+
+  -- a value, which is one field or two
+  unfoldable pub a_value : Form → Form
+  a_value form [] = bad
+  a_value form (w ∷ fs) =
+      if bytes_eq w (codes "none") then paid 1 form fs else
+      (if bytes_eq w (codes "id") || bytes_eq w (codes "text") then a_name (paid 3 form) fs else
+      (if bytes_eq w (codes "int") then a_field integer_rule (paid 5 form) fs else
+      (if bytes_eq w (codes "float") then a_field digits_rule (paid 5 form) fs else
+      (if bytes_eq w (codes "bool") then a_byte (paid 2 form) fs else
+      bad))))
+
+  -- so many values
+  abbrev pub values : ℕ → Form → Form
+  values zero form = form
+  values (suc n) form = a_value (values n form)
+
+  -- so many values at most, up to the end of the line
+  abbrev pub more_values : ℕ → Form
+  more_values zero fields = done [] [] fields
+  more_values (suc n) [] = done [] [] []
+  more_values (suc n) (f ∷ fs) = a_value (more_values n) (f ∷ fs)
+
+  abbrev pub all_values : Form
+  all_values fields = more_values (length fields) fields
+
+  abbrev pub operands : Option (ℕ × Bool) → Form
+  operands None fields = bad
+  operands (Some (n, true)) fields = paid 1 (values n (paid 5 all_values)) fields
+  operands (Some (n, false)) fields = paid 1 (values n (done [] [])) fields
+
+  abbrev pub opcode_line : Option ℕ → Form
+  opcode_line None fields = bad
+  opcode_line (Some code) fields = operands (operands_of code) fields
+
+  -- the fields of a function behind its name
+  abbrev pub function_line : Form
+  function_line = a_name (a_name (some_flags (a_byte (done function_lines []))))
+
+  -- the variable of an auto property
+  abbrev pub own_variable : Bool → Form → Form
+  own_variable true form = paid 2 (a_name form)
+  own_variable false form = form
+
+  abbrev pub property_end : ℕ → Form
+  property_end bits = own_variable (has_variable bits) (paid (least_bytes (has_read bits) + least_bytes (has_write bits)) (done (accessor_lines bits) []))
+
+  -- a line of this word, behind which a text stands
+  unfoldable pub line_of : List ℕ → List ℕ → Form
+  line_of word text fields =
+      if list_any (bytes_eq word) opcode_names then opcode_line (position (bytes_eq word) opcode_names) fields else
+      (if bytes_eq word (codes "local") || bytes_eq word (codes "param") then paid 4 (a_name (a_name (done [] []))) fields else
+      (if bytes_eq word (codes "read") || bytes_eq word (codes "write") then function_line fields else
+      (if bytes_eq word (codes "function") then paid 17 (a_name function_line) fields else
+      (if bytes_eq word (codes "state") then paid 4 (a_name (done (any_number_of (codes "function") ∷ []) [])) fields else
+      (if bytes_eq word (codes "property") then paid 11 (a_name (a_name (a_name (some_flags (a_number 0 255 property_end))))) fields else
+      (if bytes_eq word (codes "variable") then paid 8 (a_name (a_name (some_flags (a_value (done [] []))))) fields else
+      (if bytes_eq word (codes "object") then paid 22 (a_name (a_field size_rule (a_name (a_name (some_flags (a_name (done object_lines []))))))) fields else
+      (if bytes_eq word (codes "flag") then paid 3 (a_name (a_byte (done [] []))) fields else
+      (if bytes_eq word (codes "lines") then paid 9 (a_name (a_name (a_name (a_byte (numbers 65535))))) fields else
+      (if bytes_eq word (codes "nodebug") then done [] [] fields else
+      (if bytes_eq word (codes "debug") then paid 10 (a_time (done (any_number_of (codes "lines") ∷ []) [])) fields else
+      (if bytes_eq word (codes "string") then paid 2 (a_string is_added text) fields else
+      (if bytes_eq word (codes "machine") || (bytes_eq word (codes "user") || bytes_eq word (codes "source")) then paid 0 (a_string not_added text) fields else
+      (if bytes_eq word (codes "pex") then a_number 1 2 (λ _. a_time (done [] [])) fields else
+      bad))))))))))))))
+
+-- ---- where a line may stand
+
+abbrev pub is_among : List ℕ → List (List ℕ) → Bool
+is_among word words = list_any (bytes_eq word) words
+
+-- whether a line of this word may stand where these are awaited
+abbrev pub may_stand : List Awaited → List ℕ → Bool
+may_stand [] word = false
+may_stand (One words ∷ more) word = is_among word words
+may_stand (Many words n ∷ more) word = if is_among word words then nat_lt n 65535 else may_stand more word
+
+-- what is awaited behind that line and the lines inside it
+abbrev pub left_after : List Awaited → List ℕ → List Awaited
+left_after [] word = []
+left_after (One words ∷ more) word = more
+left_after (Many words n ∷ more) word = if is_among word words then Many words (suc n) ∷ more else left_after more word
+
+-- whether the text may end there
+abbrev pub may_end : List Awaited → Bool
+may_end [] = true
+may_end (One words ∷ more) = false
+may_end (Many words n ∷ more) = may_end more
+
+-- ---- the first break
+
+abbrev pub Break : Type 0
+Break = Option (ℕ × ListingRule)
+
+-- where a line stands: what is awaited, the strings of the table so far, the bytes that a file still has, and the line's number
+pub record Place : Type 0 where
+  pub awaited : List Awaited
+  pub strings : List (List ℕ)
+  pub room : ℕ
+  pub number : ℕ
+
+-- what comes of a line: the rule that it breaks, or what it leaves for the lines behind it
+pub data Outcome : Type 0 where
+  Refused : ListingRule → Outcome
+  Passed : ℕ → List Awaited → List (List ℕ) → Outcome
+
+abbrev pub unless_broken : Option ListingRule → Outcome → Outcome
+unless_broken None passed = passed
+unless_broken (Some rule) passed = Refused rule
+
+abbrev pub outcome : ℕ → Found → Outcome
+outcome room x = if nat_le x.bytes room then unless_broken x.rule (Passed (room - x.bytes) x.inside x.added) else Refused BadLine
+
+abbrev pub line_outcome : Place → List ℕ → Found → Outcome
+line_outcome p word x = if may_stand p.awaited word then outcome p.room x else Refused BadLine
+
+-- the place behind a line, where this is awaited behind the lines inside it
+abbrev pub behind_line : Place → List Awaited → Outcome → Place
+behind_line p awaited (Refused rule) = p
+behind_line p awaited (Passed room inside added) = record { awaited = inside ++ awaited; strings = p.strings ++ added; room = room; number = suc p.number }
+
+-- the rule that a line breaks, else the first break behind it
+abbrev pub first_of : ℕ → Outcome → Break → Break
+first_of number (Refused rule) behind = Some (number, rule)
+first_of number (Passed room inside added) behind = behind
+
+-- the break of what stands behind the last line's end
+abbrev pub end_break : Place → List ℕ → Break
+end_break p last = if may_end p.awaited && length last == 0 then None else Some (p.number, End)
+
+-- what stands before the first such byte, and what stands behind it
+abbrev pub before_byte : ℕ → List ℕ → List ℕ
+before_byte byte [] = []
+before_byte byte (b ∷ t) = if b == byte then [] else b ∷ before_byte byte t
+
+abbrev pub behind_byte : ℕ → List ℕ → Option (List ℕ)
+behind_byte byte [] = None
+behind_byte byte (b ∷ t) = if b == byte then Some t else behind_byte byte t
 
 -- the texts between bytes of a kind
 abbrev pub between : ℕ → List ℕ → List (List ℕ)
@@ -118,215 +369,29 @@ between byte (b ∷ t) = if b == byte then [] ∷ between byte t else joined b (
     joined c [] = (c ∷ []) ∷ []
     joined c (first ∷ more) = (c ∷ first) ∷ more
 
--- what fields must be: each by a test of its own
-abbrev pub fields_rule : List (List ℕ → Option ListingRule) → List (List ℕ) → Option ListingRule
-fields_rule [] [] = None
-fields_rule [] (f ∷ fs) = Some BadLine
-fields_rule (t ∷ ts) [] = Some BadLine
-fields_rule (t ∷ ts) (f ∷ fs) = worse (t f) (fields_rule ts fs)
+-- the fields of a line behind its first word
+abbrev pub fields_of : Option (List ℕ) → List (List ℕ)
+fields_of None = []
+fields_of (Some text) = between 32 text
 
--- values: how many, how many bytes they take, and the rule that they break
-pub record Values : Type 0 where
-  pub count : ℕ
-  pub size : ℕ
-  pub broken : Option ListingRule
+-- what comes of a line of this word, where this stands behind its space
+abbrev pub read_line : Place → List ℕ → Option (List ℕ) → Outcome
+read_line p word behind = line_outcome p word (line_of p.strings word (unwrap_or behind []) (fields_of behind))
 
-abbrev pub one_more : ℕ → Option ListingRule → Values → Values
-one_more size rule v = record { count = suc v.count; size = size + v.size; broken = worse rule v.broken }
+-- the first break of lines from such a place on; the last of them has no end
+unfoldable pub break_from : Place → List (List ℕ) → Break
+break_from p [] = None
+break_from p (last ∷ []) = end_break p last
+break_from p (text ∷ next ∷ more) =
+    first_of p.number (read_line p (before_byte 32 text) (behind_byte 32 text))
+    (break_from (behind_line p (left_after p.awaited (before_byte 32 text)) (read_line p (before_byte 32 text) (behind_byte 32 text))) (next ∷ more))
 
-abbrev pub values_of : List (List ℕ) → List (List ℕ) → Values
-values_of strings [] = record { count = 0; size = 0; broken = None }
-values_of strings (w ∷ []) = one_more 1 (if bytes_eq w (codes "none") then None else Some BadLine) (values_of strings [])
-values_of strings (w ∷ f ∷ fs) =
-    if bytes_eq w (codes "none") then one_more 1 None (values_of strings (f ∷ fs)) else
-    (if bytes_eq w (codes "id") || bytes_eq w (codes "text") then one_more 3 (reference_rule strings f) (values_of strings fs) else
-    (if bytes_eq w (codes "int") then one_more 5 (integer_rule f) (values_of strings fs) else
-    (if bytes_eq w (codes "float") then one_more 5 (digits_rule f) (values_of strings fs) else
-    (if bytes_eq w (codes "bool") then one_more 2 (number_rule 0 255 f) (values_of strings fs) else
-    record { count = 0; size = 0; broken = Some BadLine }))))
+-- the parts of a listing
+abbrev pub all_parts : List Awaited
+all_parts =
+    One (codes "pex" ∷ []) ∷ One (codes "source" ∷ []) ∷ One (codes "user" ∷ []) ∷ One (codes "machine" ∷ [])
+    ∷ any_number_of (codes "string") ∷ One (codes "nodebug" ∷ codes "debug" ∷ []) ∷ any_number_of (codes "flag") ∷ any_number_of (codes "object") ∷ []
 
-abbrev pub byte_rule : List ℕ → Option ListingRule
-byte_rule = number_rule 0 255
-
-abbrev pub flags_rule : List ℕ → Option ListingRule
-flags_rule = number_rule 0 4294967295
-
-abbrev pub time_rule : List ℕ → Option ListingRule
-time_rule = number_rule 0 18446744073709551615
-
-abbrev pub size_rule : List ℕ → Option ListingRule
-size_rule text = if bytes_eq text (codes "counted") || bytes_eq text (codes "bare") then None else Some BadLine
-
-abbrev pub as_line : ℕ → ℕ → Option ListingRule → Line
-as_line rank bytes rule = record { word = []; rank = rank; text = []; asked = []; bytes = bytes; rule = rule }
-
--- a line with a string, which takes so many bytes beside it
-abbrev pub string_line : ℕ → ℕ → List ℕ → Line
-string_line rank beside text = by (string_in text)
-  where
-    by : Option (List ℕ) → Line
-    by None = as_line rank 0 (Some BadLine)
-    by (Some s) = record { word = []; rank = rank; text = s; asked = []; bytes = beside + length s; rule = if nat_lt (length s) 65536 then unless_spelled text (quoted s) else Some BadLine }
-
-abbrev pub values_line : ℕ → ℕ → Bool → Values → Line
-values_line opcode_bytes fixed more v = as_line 0 (opcode_bytes + v.size) (if v.count == fixed || (more && nat_le fixed v.count) then v.broken else Some BadLine)
-
-abbrev pub opcode_line : List (List ℕ) → Option (ℕ × Bool) → List (List ℕ) → Line
-opcode_line strings None fields = as_line 0 0 (Some BadLine)
-opcode_line strings (Some (n, more)) fields = values_line (if more then 6 else 1) n more (values_of strings fields)
-
--- the functions that must follow a property of these bits, by their words
-abbrev pub asked_for : ℕ → List (List ℕ)
-asked_for bits = (if has_read bits then codes "read" ∷ [] else []) ++ (if has_write bits then codes "write" ∷ [] else [])
-
-abbrev pub property_line : List (List ℕ) → List (List ℕ) → Line
-property_line strings fields = by (written (front_of (drop 4 fields)))
-  where
-    front_of : List (List ℕ) → List ℕ
-    front_of [] = []
-    front_of (f ∷ fs) = f
-
-    by : Option ℤ → Line
-    by (Some (pos bits)) = record {
-      word = [];
-      rank = 6;
-      text = [];
-      asked = asked_for bits;
-      bytes = 11 + (if has_variable bits then 2 else 0) + 15 * length (asked_for bits);
-      rule = fields_rule (reference_rule strings ∷ reference_rule strings ∷ reference_rule strings ∷ flags_rule ∷ byte_rule ∷ (if has_variable bits then reference_rule strings ∷ [] else [])) fields;
-    }
-    by _ = as_line 6 0 (Some BadLine)
-
-abbrev pub numbered_line : List (List ℕ) → List (List ℕ) → Line
-numbered_line strings fields =
-    as_line 10 (9 + 2 * length (drop 4 fields))
-    (if nat_lt (length (drop 4 fields)) 65536 then worse (fields_rule (reference_rule strings ∷ reference_rule strings ∷ reference_rule strings ∷ byte_rule ∷ []) (take 4 fields)) (all (drop 4 fields)) else Some BadLine)
-  where
-    all : List (List ℕ) → Option ListingRule
-    all [] = None
-    all (f ∷ fs) = worse (number_rule 0 65535 f) (all fs)
-
-abbrev pub variable_line : List (List ℕ) → List (List ℕ) → Line
-variable_line strings fields = by (values_of strings (drop 3 fields))
-  where
-    by : Values → Line
-    by v = as_line 7 (8 + v.size) (worse (fields_rule (reference_rule strings ∷ reference_rule strings ∷ flags_rule ∷ []) (take 3 fields)) (if v.count == 1 then v.broken else Some BadLine))
-
--- a line of this word, behind which a text stands, in a value with these strings
-abbrev pub line_of : List (List ℕ) → List ℕ → List (List ℕ) → List ℕ → Line
-line_of strings word fields text =
-    if is_some (position (bytes_eq word) opcode_names) then opcode_line strings (opcode (position (bytes_eq word) opcode_names)) fields else
-    (if bytes_eq word (codes "local") then as_line 1 4 (fields_rule (name ∷ name ∷ []) fields) else
-    (if bytes_eq word (codes "param") then as_line 2 4 (fields_rule (name ∷ name ∷ []) fields) else
-    (if bytes_eq word (codes "read") || bytes_eq word (codes "write") then as_line 3 0 (fields_rule (name ∷ name ∷ flags_rule ∷ byte_rule ∷ []) fields) else
-    (if bytes_eq word (codes "function") then as_line 4 17 (fields_rule (name ∷ name ∷ name ∷ flags_rule ∷ byte_rule ∷ []) fields) else
-    (if bytes_eq word (codes "state") then as_line 5 4 (fields_rule (name ∷ []) fields) else
-    (if bytes_eq word (codes "property") then property_line strings fields else
-    (if bytes_eq word (codes "variable") then variable_line strings fields else
-    (if bytes_eq word (codes "object") then as_line 8 22 (fields_rule (name ∷ size_rule ∷ name ∷ name ∷ flags_rule ∷ name ∷ []) fields) else
-    (if bytes_eq word (codes "flag") then as_line 9 3 (fields_rule (name ∷ byte_rule ∷ []) fields) else
-    (if bytes_eq word (codes "lines") then numbered_line strings fields else
-    (if bytes_eq word (codes "nodebug") then as_line 11 0 (fields_rule [] fields) else
-    (if bytes_eq word (codes "debug") then as_line 11 10 (fields_rule (time_rule ∷ []) fields) else
-    (if bytes_eq word (codes "string") then string_line 12 2 text else
-    (if bytes_eq word (codes "machine") then string_line 13 0 text else
-    (if bytes_eq word (codes "user") then string_line 14 0 text else
-    (if bytes_eq word (codes "source") then string_line 15 0 text else
-    (if bytes_eq word (codes "pex") then as_line 16 0 (fields_rule (number_rule 1 2 ∷ time_rule ∷ []) fields) else
-    as_line 17 0 (Some BadLine))))))))))))))))))
-  where
-    name : List ℕ → Option ListingRule
-    name = reference_rule strings
-
-    opcode : Option ℕ → Option (ℕ × Bool)
-    opcode None = None
-    opcode (Some o) = operands_of o
-
--- ---- what may stand behind lines; the last of them is the first of the list
-
--- the rank of the last line, and of the last one that is no line of a function
-abbrev pub last_rank : List Line → ℕ
-last_rank [] = 17
-last_rank (x ∷ before) = x.rank
-
-abbrev pub member_rank : List Line → ℕ
-member_rank [] = 17
-member_rank (x ∷ before) = if nat_le 5 x.rank then x.rank else member_rank before
-
--- the functions that the last property still asks for
-abbrev pub owed : List Line → List (List ℕ)
-owed [] = []
-owed (x ∷ before) = if x.rank == 6 then x.asked else (if nat_le 5 x.rank then [] else (if x.rank == 3 then drop 1 (owed before) else owed before))
-
--- whether there is debug information
-abbrev pub is_debugged : List Line → Bool
-is_debugged [] = false
-is_debugged (x ∷ before) = if x.rank == 11 then bytes_eq x.word (codes "debug") else is_debugged before
-
--- how many lines of this rank stand behind the last of a higher one
-abbrev pub count : ℕ → List Line → ℕ
-count rank [] = 0
-count rank (x ∷ before) = if x.rank == rank then suc (count rank before) else (if nat_lt rank x.rank then 0 else count rank before)
-
-abbrev pub bytes_of : List Line → ℕ
-bytes_of [] = 29
-bytes_of (x ∷ before) = x.bytes + bytes_of before
-
-abbrev pub strings_of : List Line → List (List ℕ)
-strings_of [] = []
-strings_of (x ∷ before) = if x.rank == 12 then strings_of before ++ x.text ∷ [] else strings_of before
-
-abbrev pub is_first : List ℕ → List (List ℕ) → Bool
-is_first word [] = false
-is_first word (w ∷ more) = bytes_eq w word
-
-abbrev pub is_owed : List Line → Bool
-is_owed before = nat_lt 0 (length (owed before))
-
--- whether a line may stand behind them
-abbrev pub may_stand : Line → List Line → Bool
-may_stand x before =
-    if nat_le x.rank 2 then nat_le x.rank (last_rank before) && nat_le (last_rank before) 4 else
-    (if x.rank == 3 then is_first x.word (owed before) else
-    (if x.rank == 4 then member_rank before == 5 else
-    (if nat_le x.rank 7 then nat_le x.rank (member_rank before) && (nat_le (member_rank before) 8 && not (is_owed before)) else
-    (if x.rank == 8 then nat_le (member_rank before) 11 && not (is_owed before) else
-    (if x.rank == 9 then nat_le 9 (member_rank before) && nat_le (member_rank before) 11 else
-    (if x.rank == 10 then nat_le 10 (member_rank before) && (nat_le (member_rank before) 11 && is_debugged before) else
-    (if nat_le x.rank 12 then nat_le 12 (last_rank before) && nat_le (last_rank before) 13 else
-    nat_le x.rank 16 && (last_rank before == suc x.rank))))))))
-
--- whether the text may end behind them
-abbrev pub may_end : List Line → Bool
-may_end before = nat_le (last_rank before) 11 && not (is_owed before)
-
--- ---- the first break
-
-abbrev pub Break : Type 0
-Break = Option (ℕ × ListingRule)
-
-abbrev pub line_rule : Line → List Line → Option ListingRule
-line_rule x before = if may_stand x before && (nat_lt (count x.rank before) 65535 && nat_le (x.bytes + bytes_of before) 16777216) then x.rule else Some BadLine
-
-abbrev pub head_of : List (List ℕ) → List ℕ
-head_of [] = []
-head_of (f ∷ fs) = f
-
--- a line without its end, behind these lines
-abbrev pub read_line : List Line → List ℕ → Line
-read_line before text =
-    record (line_of (strings_of before) (head_of (between 32 text)) (drop 1 (between 32 text)) (drop (suc (length (head_of (between 32 text)))) text)) { word = head_of (between 32 text) }
-
--- the rule that a line breaks, else the first break behind it
-abbrev pub first_of : ℕ → Option ListingRule → Break → Break
-first_of number None behind = behind
-first_of number (Some rule) behind = Some (number, rule)
-
--- the first break of lines that stand behind others; the last of them has no end
-abbrev pub break_behind : List Line → List (List ℕ) → Break
-break_behind before [] = None
-break_behind before (last ∷ []) = if may_end before && (length last == 0) then None else Some (suc (length before), End)
-break_behind before (text ∷ next ∷ more) = first_of (suc (length before)) (line_rule (read_line before text) before) (break_behind (read_line before text ∷ before) (next ∷ more))
-
+-- a value with empty strings and lists has 29 bytes
 abbrev pub list_break : List ℕ → Break
-list_break text = break_behind [] (between 10 text)
+list_break text = break_from (record { awaited = all_parts; strings = []; room = 16777216 - 29; number = 1 }) (between 10 text)

@@ -7,3 +7,5 @@ pub mod Opened
 pub mod Showing
 pub mod Reading
 pub mod Breaks
+pub mod Fields
+pub mod Left

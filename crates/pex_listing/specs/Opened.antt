@@ -1,9 +1,6 @@
 -- What is left of a listing while its lines are read, and what reading a part of it takes.
-use Rattle.std.specs.Prelude.{◌≡◌, ℕ, ◌+◌, Bool, true, List, [], ◌∷◌, ◌++◌, None, unwrap_or, option_map}
+use Rattle.std.specs.Prelude.{◌≡◌, ℕ, ◌+◌, Bool, true, List, [], ◌∷◌, ◌++◌, Option, Some, None, unwrap_or, option_map}
 use Rattle.pex_listing.specs.Lines.{field}
-use Rattle.pex_listing.specs.Listing.{opcode_name}
-use Rattle.pex_listing.specs.declared.listing.FirstWord.{FirstWord}
-use Rattle.pex_listing.specs.declared.listing.FirstWord.TheVariants as word
 use Rattle.pex_listing.specs.declared.listing.Listing.{Listing}
 
 -- the fields of the open line that weren't read yet, each behind its space
@@ -12,16 +9,15 @@ fields_left l = unwrap_or (option_map (λ fields. field fields.now) l.fields) []
 
 -- what is left of the text behind the fields that were read
 abbrev pub behind : Listing → List ℕ
-behind l = fields_left l ++ 10 ∷ l.rest.now
+behind l = fields_left l ++ 10 ∷ l.rest.bytes.now
 
-abbrev pub text_from : FirstWord → Listing → List ℕ
-text_from (word.Word spelled) l = spelled.now ++ behind l
-text_from (word.Opcode code) l = opcode_name code ++ behind l
-text_from word.End l = l.rest.now
+abbrev pub text_from : Option (List ℕ) → Listing → List ℕ
+text_from (Some word) l = word ++ behind l
+text_from None l = l.rest.bytes.now
 
 -- what is left of the text, the open line with it, of which no field was read
 abbrev pub text_left : Listing → List ℕ
-text_left l = text_from l.first_word l
+text_left l = text_from (option_map (λ word. word.now) l.word) l
 
 -- the open line breaks no rule so far
 abbrev pub Good : Listing → Type 0
@@ -32,7 +28,7 @@ pub record Notes (holds : Bool) (old new : Listing) : Type 0 where
   pub good : Good new → Good old
   pub this : Good new → holds ≡ true
   pub fields : fields_left new ≡ fields_left old
-  pub rest : new.rest.now ≡ old.rest.now
+  pub rest : new.rest.bytes.now ≡ old.rest.bytes.now
   pub room : new.room.left ≡ old.room.left
 
 -- so many bytes were taken from the room
@@ -40,13 +36,13 @@ pub record Spends (bytes : ℕ) (old new : Listing) : Type 0 where
   pub good : Good new → Good old
   pub room : Good new → new.room.left + bytes ≡ old.room.left
   pub fields : fields_left new ≡ fields_left old
-  pub rest : new.rest.now ≡ old.rest.now
+  pub rest : new.rest.bytes.now ≡ old.rest.bytes.now
 
 -- a field was read
 pub record Cuts (text : List ℕ) (old new : Listing) : Type 0 where
   pub good : Good new → Good old
   pub taken : Good new → fields_left old ≡ field text ++ fields_left new
-  pub rest : new.rest.now ≡ old.rest.now
+  pub rest : new.rest.bytes.now ≡ old.rest.bytes.now
   pub room : new.room.left ≡ old.room.left
 
 -- fields were read; where the line is good, they are this text, and so many bytes were taken for them
@@ -54,7 +50,7 @@ pub record Takes (text : List ℕ) (bytes : ℕ) (old new : Listing) : Type 0 wh
   pub good : Good new → Good old
   pub taken : Good new → fields_left old ≡ text ++ fields_left new
   pub room : Good new → new.room.left + bytes ≡ old.room.left
-  pub rest : new.rest.now ≡ old.rest.now
+  pub rest : new.rest.bytes.now ≡ old.rest.bytes.now
 
 -- the same of fields whose value may stand there
 pub record Gives (Holds : Type 0) (text : List ℕ) (bytes : ℕ) (old new : Listing) : Type 0 where
@@ -70,7 +66,7 @@ pub record Begun (text : List ℕ) (bytes : ℕ) (first now : Listing) : Type 0 
 pub record Ends (old new : Listing) : Type 0 where
   pub last : fields_left old ≡ []
   pub good : Good old
-  pub opened : text_left new ≡ old.rest.now
+  pub opened : text_left new ≡ old.rest.bytes.now
   pub room : new.room.left ≡ old.room.left
 
 -- these lines were read, and so many bytes were taken for them

@@ -1,5 +1,5 @@
 -- What the table of a file's strings has.
-use Rattle.std.specs.Prelude.{◌≡◌, ℕ, Bool, true, List, ◌∷◌, Option, Some, unwrap_or, option_map, slice_get, is_none, ◌&&◌, nat_le, length, if◌then◌else◌}
+use Rattle.std.specs.Prelude.{◌≡◌, ℕ, Bool, true, List, ◌∷◌, Option, Some, None, unwrap_or, option_map, slice_get, is_none, ◌&&◌, nat_le, nat_lt, length, if◌then◌else◌}
 use Rattle.std.specs.Fmt.{decimal}
 use Rattle.std.specs.HashMap.{get_by}
 use Rattle.std.specs.Str.{bytes_eq}
@@ -9,6 +9,11 @@ use Rattle.pex_listing.specs.declared.strings.StringWords.{StringWords}
 -- the place that the table has for these bytes
 abbrev pub place_in : StringWords → List ℕ → Option ℕ
 place_in words bytes = get_by (λ key. bytes_eq bytes key.items) words.first
+
+-- a place that fits a reference
+abbrev pub two_byte : Option ℕ → Option ℕ
+two_byte None = None
+two_byte (Some place) = if nat_lt place 65536 then Some place else None
 
 -- the table has the first place of each string that is a word
 abbrev pub HasWords : List (List ℕ) → StringWords → Type 0

@@ -1,6 +1,6 @@
 //! Listings to values.
 
-ghost use Rattle.std.specs.Prelude.{◌≡◌, ◌++◌, codes, ◌+◌, ◌<◌, ◌^◌, ◌⊎◌, length, vec_len, IfOk, IfSome};
+ghost use Rattle.std.specs.Prelude.{◌≡◌, ℕ, List, [], ◌∷◌, ◌++◌, codes, ◌+◌, ◌<◌, ◌^◌, ◌⊎◌, length, vec_len, IfOk, IfSome};
 ghost use Rattle.std.specs.List.{flat_map, AllByRecursion};
 ghost use Rattle.pex_values.specs.Fit.{Fits, IsCounted};
 ghost use Rattle.pex_values.specs.Plain.{plain, plain_lines};
@@ -8,7 +8,9 @@ ghost use Rattle.pex_values.specs.Shape.{IsWellShaped, IsShapedFlag};
 ghost use Rattle.pex_values.specs.Spelling as spell;
 ghost use Rattle.pex_listing.specs.Lines.{first_line, line_end, number, string_line};
 ghost use Rattle.pex_listing.specs.Listing as form;
-ghost use Rattle.pex_listing.specs.Opened.{Gives, TakesLines, text_left};
+ghost use Rattle.pex_listing.specs.Breaks.{Awaited, One};
+ghost use Rattle.pex_listing.specs.Left.{Reads, lines_left, view};
+ghost use Rattle.pex_listing.specs.Opened.{Gives, Good, TakesLines, text_left};
 ghost use Rattle.pex_listing.specs.Reading.{ReadsAll, HoldsLines, ReadsDebug, debug_rest, debug_start};
 ghost use Rattle.pex_listing.specs.Spelled.{spelled_in};
 
@@ -23,13 +25,13 @@ use std::alloc::Global;
 fn read_version(listing: &mut Listing) -> Read<(u8, u64)>
     ensures shaped { IfOk result (λ v. ((v.0 ≡ 1) ⊎ (v.0 ≡ 2)) × (v.1 < 2 ^ 64)) }
     ensures line { IfOk result (λ v. TakesLines (first_line v.0 v.1) 0 listing.old listing.new) }
+    ensures left { (strings : List (List ℕ)) → (awaited : List Awaited) → Good listing.old → Reads (lines_left strings (One (codes "pex" ∷ []) ∷ awaited) (view listing.old)) result (λ _. lines_left strings awaited (view listing.new)) listing.new }
 {
     listing.expect(b"pex")?;
-    let minor = listing.unsigned_8();
-    listing.check(minor == 1 || minor == 2, ListingRule::BadLine);
-    let time = listing.unsigned(u64::MAX);
+    let minor = listing.unsigned(1, 2);
+    let time = listing.unsigned(0, u64::MAX);
     listing.next_line()?;
-    Ok((minor, time))
+    Ok((minor as u8, time))
 }
 
 /// A line with a string behind this word, which must come. So many bytes are taken beside those of the string.
@@ -123,7 +125,7 @@ fn read_debug_time(listing: &mut Listing) -> Read<u64>
 {
     listing.expect(b"debug")?;
     listing.spend(10);
-    let time = listing.unsigned(u64::MAX);
+    let time = listing.unsigned(0, u64::MAX);
     listing.next_line()?;
     Ok(time)
 }
@@ -217,5 +219,5 @@ pub fn assemble(alloc: Global, bytes: &[u8]) -> Result<Pex, ListingFault>
     ensures text { IfOk result (λ v. bytes.now ≡ form.listing (plain v)) }
 {
     let mut listing = Listing::new(alloc, bytes);
-    read_pex(&mut listing).map_err(|fault| at_line(listing.number, fault))
+    read_pex(&mut listing).map_err(|fault| at_line(listing.number(), fault))
 }

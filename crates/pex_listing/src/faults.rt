@@ -66,10 +66,14 @@ pub(crate) type LineRefusal = Fault<ListingRule>;
 
 pub(crate) const BAD_LINE: LineRefusal = Fault::Broken(ListingRule::BadLine);
 
-/// The fault of the whole listing, where this is the line.
-pub(crate) fn at_line(line: u32, fault: LineRefusal) -> ListingFault {
+/// The fault of the whole listing, where this is the line. Fewer than 2^32 lines stand before one that is refused, since
+/// their parts wouldn't fit.
+pub(crate) fn at_line(line: u64, fault: LineRefusal) -> ListingFault {
     match fault {
-        Fault::Broken(rule) => ListingFault::Broken { line, rule },
+        Fault::Broken(rule) => ListingFault::Broken {
+            line: u32::try_from(line).unwrap_or(u32::MAX),
+            rule,
+        },
         Fault::OutOfMemory => ListingFault::OutOfMemory,
     }
 }

@@ -1,18 +1,23 @@
 //! A listing as lines, a line as fields, and what the parts of a listing have in common.
 
-ghost use Rattle.std.specs.Prelude.{◌≡◌, ℕ, List, ◌+◌, ◌<◌, ◌≤◌, ◌^◌, [], ◌∷◌, ◌++◌, false, length, vec_len, IfOk, IfSome, unwrap_or, option_map, if◌then◌else◌};
+ghost use Rattle.std.specs.Prelude.{◌≡◌, ℕ, List, ◌+◌, ◌<◌, ◌≤◌, ◌^◌, [], ◌∷◌, ◌++◌, false, length, vec_len, IfOk, IfErr, IfSome, Some, None, unwrap_or, option_map, if◌then◌else◌};
 ghost use Rattle.std.specs.Fmt.{signed_decimal};
 ghost use Rattle.std.specs.List.{flat_map};
 ghost use Rattle.pex_values.specs.Shape.{IsReference};
 ghost use Rattle.pex_listing.specs.Lines.{eight_digits, field, number, quoted};
+ghost use Rattle.pex_listing.specs.Breaks.{Awaited, all_parts, before_byte, behind_byte, between, break_from, digits_rule, a_string, done, integer_rule, list_break, paid, reference_rule, size_rule};
+ghost use Rattle.pex_listing.specs.Left.{Counted, IsTableOf, has_field, Pays, Reads, Tested, begins, behind_field, field_in, lines_left, line_left, missing_by, noted, number_of, place_behind, view};
 ghost use Rattle.pex_listing.specs.Listing.{opcode_name, size_form};
 ghost use Rattle.pex_listing.specs.Opened.{Begun, Cuts, Ends, Gives, Good, Notes, Spends, Takes, TakesLines, fields_left, text_left};
 ghost use Rattle.pex_listing.specs.Reading.{ReadsAll};
 ghost use Rattle.pex_listing.specs.Spelled.{spelled_in};
+ghost use Rattle.papy_base.specs.declared.faults.Fault.TheVariants.{Broken};
 
 use crate::faults::{BAD_LINE, ListingRule, Read};
-use crate::fields::{hexadecimal_of, reference_of, signed_of, size_form_of, unquote, unsigned_of};
-use crate::room::Room;
+use crate::fields::{
+    hexadecimal_of, is_quoted, reference_of, signed_of, size_form_of, unquote, unsigned_of,
+};
+use crate::room::{Rest, Room};
 use crate::showing::opcode_name;
 use crate::strings::StringWords;
 use papy_base::{Fault, Made, Text};
@@ -28,17 +33,6 @@ const LEAST: u32 = 29;
 /// How many opcodes there are.
 const OPCODE_COUNT: u8 = 36;
 
-/// What a line begins with.
-#[derive(Clone, Copy)]
-pub(crate) enum FirstWord<'a> {
-    /// A word that is no opcode's name.
-    Word(&'a [u8]),
-    /// The name of this opcode.
-    Opcode(u8),
-    /// No line is left that ends with LF.
-    End,
-}
-
 /// The opcode of this name.
 fn opcode_of(word: &[u8]) -> Option<u8>
     ensures { IfSome result (λ code. word.now ≡ opcode_name code) }
@@ -53,7 +47,9 @@ fn opcode_of(word: &[u8]) -> Option<u8>
 
 /// What stands before the first such byte, and what follows it.
 fn cut(bytes: &[u8], byte: u8) -> Option<(&[u8], &[u8])>
-    ensures { IfSome result (λ parts. bytes.now ≡ parts.0.now ++ byte ∷ parts.1.now) }
+    ensures whole { IfSome result (λ parts. bytes.now ≡ parts.0.now ++ byte ∷ parts.1.now) }
+    ensures before { IfSome result (λ parts. parts.0.now ≡ before_byte byte bytes.now) }
+    ensures behind { option_map (λ parts. parts.1.now) result ≡ behind_byte byte bytes.now }
 {
     let at = bytes.iter().position(|each| *each == byte)?;
     Some((&bytes[..at], &bytes[at + 1..]))
@@ -61,7 +57,9 @@ fn cut(bytes: &[u8], byte: u8) -> Option<(&[u8], &[u8])>
 
 /// What stands before the first space, and the fields behind it, if there is one.
 fn split_field(bytes: &[u8]) -> (&[u8], Option<&[u8]>)
-    ensures { bytes.now ≡ result.0.now ++ unwrap_or (option_map (λ fields. 32 ∷ fields.now) result.1) [] }
+    ensures whole { bytes.now ≡ result.0.now ++ unwrap_or (option_map (λ fields. 32 ∷ fields.now) result.1) [] }
+    ensures field { result.0.now ≡ before_byte 32 bytes.now }
+    ensures behind { option_map (λ fields. fields.now) result.1 ≡ behind_byte 32 bytes.now }
 {
     match cut(bytes, b' ') {
         Some((field, fields)) => (field, Some(fields)),
@@ -75,16 +73,14 @@ fn split_field(bytes: &[u8]) -> (&[u8], Option<&[u8]>)
 pub(crate) struct Listing<'a> {
     /// The allocator of what is read.
     pub alloc: Global,
-    first_word: FirstWord<'a>,
+    /// The first word of the open line. None where no line is left that ends with LF.
+    word: Option<&'a [u8]>,
     /// The fields of the open line that weren't read yet. None behind the last one.
     pub fields: Option<&'a [u8]>,
     /// The rule that the open line breaks so far: BadLine before BadName, and that before NotCanonical.
     broken: Option<ListingRule>,
     pub room: Room,
-    /// The number of the open line, from 1.
-    pub number: u32,
-    /// What follows the open line.
-    rest: &'a [u8],
+    rest: Rest<'a>,
 }
 
 impl<'a> Listing<'a> {
@@ -92,91 +88,103 @@ impl<'a> Listing<'a> {
     pub(crate) fn new(alloc: Global, bytes: &'a [u8]) -> Listing<'a>
         ensures text { text_left result ≡ bytes.now }
         ensures room { result.room.left + 29 ≡ 16777216 }
+        ensures left { Good result × (lines_left [] all_parts (view result) ≡ list_break bytes.now) }
     {
         let mut listing = Listing {
             alloc,
-            first_word: FirstWord::End,
+            word: None,
             fields: None,
             broken: None,
             room: Room {
                 left: FILE_LIMIT - LEAST,
             },
-            number: 0,
-            rest: bytes,
+            rest: Rest { bytes, lines: 0 },
         };
         listing.open_next();
         listing
     }
 
-    /// Opens the line that follows. There are fewer than 2^32 before one that is refused, since their parts don't fit.
+    /// Opens the line that follows.
     fn open_next(&mut self)
-        ensures text { text_left self.new ≡ self.old.rest.now }
+        ensures text { text_left self.new ≡ self.old.rest.bytes.now }
         ensures room { self.new.room.left ≡ self.old.room.left }
+        ensures broken { self.new.broken ≡ self.old.broken }
+        ensures left { (strings : List (List ℕ)) → (awaited : List Awaited) → lines_left strings awaited (view self.new) ≡ break_from (place_behind strings awaited (view self.old)) (between 10 self.old.rest.bytes.now) }
     {
-        self.number = self.number.saturating_add(1);
+        self.word = None;
         self.fields = None;
-        self.first_word = FirstWord::End;
-        let Some((line, rest)) = cut(self.rest, b'\n') else {
+        let Some((line, rest)) = cut(self.rest.bytes, b'\n') else {
             return;
         };
-        self.rest = rest;
+        self.rest = Rest {
+            bytes: rest,
+            lines: self.rest.lines + 1,
+        };
         let (word, fields) = split_field(line);
+        self.word = Some(word);
         self.fields = fields;
-        self.first_word = FirstWord::Word(word);
-        if let Some(opcode) = opcode_of(word) {
-            self.first_word = FirstWord::Opcode(opcode);
-        }
     }
 
-    /// Whether the open line begins with this word, which is no opcode's name.
-    pub(crate) fn is_at(&self, word: &[u8]) -> bool {
-        match self.first_word {
-            FirstWord::Word(found) => found == word,
-            _ => false,
-        }
-    }
-
-    /// Whether the open line begins with an opcode's name.
-    pub(crate) fn is_at_opcode(&self) -> bool {
-        matches!(self.first_word, FirstWord::Opcode(_))
-    }
-
-    /// A line with this word must come.
-    pub(crate) fn expect(&self, word: &[u8]) -> Read<()>
-        ensures { IfOk result (λ _. Begun word.now 0 self.now self.now) }
+    /// The number of the open line from 1, or of the one that is missing.
+    pub(crate) fn number(&self) -> u64
+        ensures { result ≡ number_of (view self.now) }
     {
-        match self.first_word {
-            FirstWord::Word(found) if found == word => Ok(()),
-            FirstWord::End => Err(Fault::Broken(ListingRule::End)),
-            _ => Err(BAD_LINE),
+        match self.word {
+            Some(_) => self.rest.lines,
+            None => self.rest.lines + 1,
+        }
+    }
+
+    /// Whether the open line begins with this word.
+    pub(crate) fn is_at(&self, word: &[u8]) -> bool
+        ensures { result ≡ begins (word.now ∷ []) (view self.now) }
+    {
+        match self.word {
+            Some(found) => found == word,
+            None => false,
         }
     }
 
     /// The opcode whose name the open line begins with.
-    pub(crate) fn opcode(&self) -> Read<u8>
-        ensures { IfOk result (λ code. Begun (opcode_name code) 0 self.now self.now) }
+    pub(crate) fn opcode(&self) -> Option<u8>
+        ensures { IfSome result (λ code. Begun (opcode_name code) 0 self.now self.now) }
     {
-        match self.first_word {
-            FirstWord::Opcode(opcode) => Ok(opcode),
-            _ => Err(BAD_LINE),
+        opcode_of(self.word?)
+    }
+
+    /// A line with this word must come.
+    pub(crate) fn expect(&self, word: &[u8]) -> Read<()>
+        ensures text { IfOk result (λ _. Begun word.now 0 self.now self.now) }
+        ensures word { IfOk result (λ _. (view self.now).word ≡ Some word.now) }
+        ensures missing { IfErr result (λ fault. (begins (word.now ∷ []) (view self.now) ≡ false) × (fault ≡ Broken (missing_by (view self.now).word))) }
+    {
+        match self.word {
+            Some(found) if found == word => Ok(()),
+            Some(_) => Err(BAD_LINE),
+            None => Err(Fault::Broken(ListingRule::End)),
         }
     }
 
     /// No line may follow, also none without its LF.
     pub(crate) fn end(&self) -> Read<()>
-        ensures { IfOk result (λ _. text_left self.now ≡ []) }
+        ensures text { IfOk result (λ _. text_left self.now ≡ []) }
+        ensures left { (strings : List (List ℕ)) → Good self.now → Reads (lines_left strings [] (view self.now)) result (λ _. None) self.now }
     {
-        match self.first_word {
-            FirstWord::End if self.rest.is_empty() => Ok(()),
-            FirstWord::End => Err(Fault::Broken(ListingRule::End)),
-            _ => Err(BAD_LINE),
+        match self.word {
+            Some(_) => Err(BAD_LINE),
+            None if self.rest.bytes.is_empty() => Ok(()),
+            None => Err(Fault::Broken(ListingRule::End)),
         }
     }
 
     /// Goes on to the next line. The open one has no further field, so now it is judged.
     pub(crate) fn next_line(&mut self) -> Read<()>
-        ensures { IfOk result (λ _. Ends self.old self.new) }
+        ensures ends { IfOk result (λ _. Ends self.old self.new) }
+        ensures left { (strings : List (List ℕ)) → (awaited inside : List Awaited) → (added : List (List ℕ)) → Reads (line_left strings awaited (done inside added) (view self.old)) result (λ _. lines_left (strings ++ added) (inside ++ awaited) (view self.new)) self.new }
     {
+        if self.word.is_none() {
+            return Err(Fault::Broken(ListingRule::End));
+        }
         if self.fields.is_some() {
             return Err(BAD_LINE);
         }
@@ -189,18 +197,21 @@ impl<'a> Listing<'a> {
 
     /// Notes a rule that the open line breaks.
     pub(crate) fn note(&mut self, rule: ListingRule)
-        ensures { Notes false self.old self.new }
+        ensures notes { Notes false self.old self.new }
+        ensures noted { view self.new ≡ noted (Some rule) (view self.old) }
     {
         match (self.broken, rule) {
             (Some(ListingRule::BadLine), _) => {}
-            (Some(ListingRule::BadName), ListingRule::NotCanonical) => {}
+            (Some(ListingRule::BadName), ListingRule::NotCanonical | ListingRule::End) => {}
+            (Some(ListingRule::NotCanonical), ListingRule::End) => {}
             _ => self.broken = Some(rule),
         }
     }
 
     /// Notes the rule unless the test holds.
     pub(crate) fn check(&mut self, holds: bool, rule: ListingRule)
-        ensures { Notes holds self.old self.new }
+        ensures notes { Notes holds self.old self.new }
+        ensures noted { view self.new ≡ noted (if holds then None else Some rule) (view self.old) }
     {
         if !holds {
             self.note(rule);
@@ -209,7 +220,9 @@ impl<'a> Listing<'a> {
 
     /// Takes so many bytes. The value no longer fits where fewer are left.
     pub(crate) fn spend(&mut self, bytes: u32)
-        ensures { Spends bytes self.old self.new }
+        ensures spends { Spends bytes self.old self.new }
+        ensures pays { Pays bytes self.old self.new }
+        ensures same { (view self.new).fields ≡ (view self.old).fields }
     {
         let left = self.room.left;
         if bytes > left {
@@ -220,13 +233,17 @@ impl<'a> Listing<'a> {
     }
 
     /// Whether the open line has a further field, and may still be good.
-    pub(crate) fn has_field(&self) -> bool {
+    pub(crate) fn has_field(&self) -> bool
+        ensures { result ≡ has_field (view self.now) }
+    {
         self.fields.is_some() && !matches!(self.broken, Some(ListingRule::BadLine))
     }
 
     /// The next field.
     pub(crate) fn field(&mut self) -> &'a [u8]
-        ensures { Cuts result.now self.old self.new }
+        ensures cuts { Cuts result.now self.old self.new }
+        ensures field { result.now ≡ field_in (view self.old).fields }
+        ensures behind { view self.new ≡ behind_field (view self.old) }
     {
         let Some(fields) = self.fields else {
             self.note(ListingRule::BadLine);
@@ -241,27 +258,31 @@ impl<'a> Listing<'a> {
     pub(crate) fn string(&mut self) -> Made<Text>
         ensures short { IfOk result (λ text. length text < 2 ^ 16) }
         ensures taken { IfOk result (λ text. Takes (field (quoted text)) 0 self.old self.new) }
+        ensures left { IfOk result (λ text. (strings : List (List ℕ)) → (awaited : List Awaited) → (adds : List ℕ → List (List ℕ)) → line_left strings awaited (a_string adds (unwrap_or (view self.old).fields [])) (view self.old) ≡ line_left strings awaited (paid (length text) (done [] (adds text))) (view self.new)) }
     {
         let Some(field) = self.fields else {
             self.note(ListingRule::BadLine);
             return Text::try_from_bytes(self.alloc, b"");
         };
-        let Some(quoted) = unquote(self.alloc, field)? else {
+        let Some(text) = unquote(self.alloc, field)? else {
             self.note(ListingRule::BadLine);
             return Text::try_from_bytes(self.alloc, b"");
         };
+        let is_canonical = is_quoted(self.alloc, field, &text)?;
         self.fields = None;
-        self.check(quoted.is_canonical, ListingRule::NotCanonical);
-        Ok(quoted.text)
+        self.check(is_canonical, ListingRule::NotCanonical);
+        Ok(text)
     }
 
-    /// A number without sign, or `-0`.
-    pub(crate) fn unsigned(&mut self, most: u64) -> u64
-        ensures within { result ≤ most }
+    /// A number without sign from the least to the most, or `-0`.
+    pub(crate) fn unsigned(&mut self, least: u64, most: u64) -> u64
+        ensures least { Good self.new → least ≤ result }
+        ensures most { result ≤ most }
         ensures taken { Takes (number result) 0 self.old self.new }
+        ensures counted { Counted least most result self.old self.new }
     {
         let field = self.field();
-        match unsigned_of(field, most) {
+        match unsigned_of(field, least, most) {
             Some((number, is_canonical)) => {
                 self.check(is_canonical, ListingRule::NotCanonical);
                 number
@@ -274,26 +295,30 @@ impl<'a> Listing<'a> {
     }
 
     pub(crate) fn unsigned_8(&mut self) -> u8
-        ensures { Takes (number result) 0 self.old self.new }
+        ensures taken { Takes (number result) 0 self.old self.new }
+        ensures counted { Counted 0 255 result self.old self.new }
     {
-        self.unsigned(0xFF) as u8
+        self.unsigned(0, 0xFF) as u8
     }
 
     pub(crate) fn unsigned_16(&mut self) -> u16
-        ensures { Takes (number result) 0 self.old self.new }
+        ensures taken { Takes (number result) 0 self.old self.new }
+        ensures counted { Counted 0 65535 result self.old self.new }
     {
-        self.unsigned(0xFFFF) as u16
+        self.unsigned(0, 0xFFFF) as u16
     }
 
     pub(crate) fn unsigned_32(&mut self) -> u32
-        ensures { Takes (number result) 0 self.old self.new }
+        ensures taken { Takes (number result) 0 self.old self.new }
+        ensures counted { Counted 0 4294967295 result self.old self.new }
     {
-        self.unsigned(0xFFFF_FFFF) as u32
+        self.unsigned(0, 0xFFFF_FFFF) as u32
     }
 
     /// A number with a sign.
     pub(crate) fn signed(&mut self) -> i32
-        ensures { Takes (field (signed_decimal result)) 0 self.old self.new }
+        ensures taken { Takes (field (signed_decimal result)) 0 self.old self.new }
+        ensures tested { Tested integer_rule self.old self.new }
     {
         let field = self.field();
         match signed_of(field) {
@@ -310,7 +335,8 @@ impl<'a> Listing<'a> {
 
     /// Eight hexadecimal digits.
     pub(crate) fn hexadecimal(&mut self) -> u32
-        ensures { Takes (field (eight_digits result)) 0 self.old self.new }
+        ensures taken { Takes (field (eight_digits result)) 0 self.old self.new }
+        ensures tested { Tested digits_rule self.old self.new }
     {
         let field = self.field();
         match hexadecimal_of(field) {
@@ -327,7 +353,8 @@ impl<'a> Listing<'a> {
 
     /// A reference.
     pub(crate) fn reference(&mut self, names: &StringWords) -> u16
-        ensures { Gives (IsReference (vec_len names.now.spelled) result) (field (spelled_in names.now result)) 0 self.old self.new }
+        ensures gives { Gives (IsReference (vec_len names.now.spelled) result) (field (spelled_in names.now result)) 0 self.old self.new }
+        ensures tested { (strings : List (List ℕ)) → IsTableOf strings names.now → Tested (reference_rule strings) self.old self.new }
     {
         let field = self.field();
         match reference_of(names, field) {
@@ -344,7 +371,8 @@ impl<'a> Listing<'a> {
 
     /// What the size field of an object counts.
     pub(crate) fn size_form(&mut self) -> SizeForm
-        ensures { Takes (size_form result) 0 self.old self.new }
+        ensures taken { Takes (size_form result) 0 self.old self.new }
+        ensures tested { Tested size_rule self.old self.new }
     {
         let word = self.field();
         match size_form_of(word) {

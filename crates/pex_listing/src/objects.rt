@@ -99,11 +99,13 @@ impl Item for Instruction {
     ghost lines = { λ spelled i. form.instruction spelled (plain_instruction i) };
 
     fn is_next(listing: &Listing) -> bool {
-        listing.is_at_opcode()
+        listing.opcode().is_some()
     }
 
     fn read(listing: &mut Listing, names: &StringWords) -> Read<Self> {
-        let opcode = listing.opcode()?;
+        let Some(opcode) = listing.opcode() else {
+            return Err(BAD_LINE);
+        };
         let Some((count, may_follow)) = operand_count(opcode) else {
             return Err(BAD_LINE);
         };

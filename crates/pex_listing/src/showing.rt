@@ -83,7 +83,7 @@ fn put_byte(out: &mut Vec<u8>, byte: u8) -> Added
 }
 
 /// A string in quotes.
-fn put_string(out: &mut Vec<u8>, string: &Text) -> Added
+pub(crate) fn put_string(out: &mut Vec<u8>, string: &Text) -> Added
     ensures { OnOk result (out.new.items ≡ out.old.items ++ quoted string.now) }
 {
     out.push(b'"')?;

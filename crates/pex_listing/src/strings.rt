@@ -1,10 +1,10 @@
 //! The strings of a file by their bytes, and how references to them are spelled.
 
-ghost use Rattle.std.specs.Prelude.{◌≡◌, ◌<◌, ◌∷◌, ◌++◌, length, vec_len, if◌then◌else◌, IfOk, IfSome, OnOk, map};
+ghost use Rattle.std.specs.Prelude.{◌≡◌, ◌<◌, ◌≤◌, None, ◌∷◌, ◌++◌, length, vec_len, if◌then◌else◌, IfOk, IfSome, OnOk, map};
 ghost use Rattle.std.specs.Fmt.{decimal};
 ghost use Rattle.std.specs.List.{list_all, range_with_len};
 ghost use Rattle.pex_listing.specs.Lines.{field, is_word_byte, is_word, reference};
-ghost use Rattle.pex_listing.specs.Spelled.{HasWords, Noted, spelled_in};
+ghost use Rattle.pex_listing.specs.Spelled.{HasWords, Noted, place_in, spelled_in, two_byte};
 
 use itoa::Buffer;
 use papy_base::{Made, Text};
@@ -90,7 +90,9 @@ impl StringWords {
     }
 
     /// The first place of a string of these bytes, which are a word.
-    pub(crate) fn place_of(&self, bytes: &[u8]) -> Option<u16> {
+    pub(crate) fn place_of(&self, bytes: &[u8]) -> Option<u16>
+        ensures { result ≡ two_byte (place_in self.now bytes.now) }
+    {
         u16::try_from(*self.first.get(bytes)?).ok()
     }
 
@@ -98,6 +100,7 @@ impl StringWords {
     pub(crate) fn spelling_of(&self, place: u16) -> Option<&[u8]>
         ensures spelled { IfSome result (λ bytes. bytes.now ≡ spelled_in self.now place) }
         ensures known { IfSome result (λ _. place < vec_len self.now.spelled) }
+        ensures unknown { result ≡ None → vec_len self.now.spelled ≤ place }
     {
         match self.spelled.get(place as usize) {
             Some(spelled) => Some(spelled.as_slice()),

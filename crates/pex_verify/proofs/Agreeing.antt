@@ -19,7 +19,7 @@ use Rattle.pex_verify.specs.declared.scripts.Signature.{Signature}
 use Rattle.pex_verify.specs.Agreement.{IsOffered, IsPropertyOffered}
 use Rattle.pex_verify.specs.Meanings.{Meanings}
 use Rattle.pex_verify.specs.Pairs.{Paired}
-use Rattle.pex_verify.proofs.Views.{StateView, view_of, AreViewed, IsOutlined, AreMembersOf, HaveSignatures, sought, KeepsAbove, PropertyFound, heads_of, first_head, HaveProperties, AreNew, ArePropertyMembers, head_at}
+use Rattle.pex_verify.proofs.Views.{StateView, view_of, AreViewed, IsOutlined, AreMembersOf, HaveSignatures, Replaces, sought, KeepsAbove, PropertyFound, heads_of, first_head, HaveProperties, AreNew, ArePropertyMembers, head_at}
 use Rattle.pex_verify.proofs.Offered.{IsOffered-from_views}
 use Rattle.pex_verify.proofs.Properties.{IsPropertyOffered-from_heads, head_sought_is}
 use Rattle.pex_verify.proofs.Sought.{Replaces-from_tables, offered_from_sought, numbered_is}
@@ -63,10 +63,13 @@ module _ (types : Meanings) (names : List (List ℕ)) (outline : List ScriptShap
             (k.0, (here.0, sym (sought_upward script declared.name (views_within script i view v)) ∙ here.1, here.2));
       }
 
+      pub views_replace : Replaces outline views
+      views_replace = Replaces-from_tables outline views members signature_at are have keeps_sought
+
       -- a function that the table finds is offered
       pub functions_agree : (script number : ℕ) (name : List ℕ) (signature : Signature) → script < length parents → number_in names name ≡ Some number → option_and_then signature_at (found script number) ≡ Some signature → IsOffered types outline scripts script name signature
       functions_agree script number name signature within named e =
-          IsOffered-from_views types names outline scripts views viewed (Replaces-from_tables outline views members signature_at are have keeps_sought) outlined script number name signature named (offered_from_sought outline views members signature_at are have script number signature (sym (sought_upward script number within) ∙ e))
+          IsOffered-from_views types names outline scripts views viewed views_replace outlined script number name signature named (offered_from_sought outline views members signature_at are have script number signature (sym (sought_upward script number within) ∙ e))
 
   module _ (heads : List (List PropertySignature)) (property_at : MemberPlace → Option PropertySignature) (at_heads : (place : MemberPlace) → property_at place ≡ head_at heads place) (are : ArePropertyMembers heads members) where
     at_same : (o : Option MemberPlace) → option_and_then property_at o ≡ option_and_then (head_at heads) o

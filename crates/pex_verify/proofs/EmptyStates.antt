@@ -62,7 +62,7 @@ pub in_first : (views : List StateView) (name : ℕ) (own : OwnFound) → own_fo
 in_first views name own h = in_first_by views name own (numbered is_empty views) refl h
 
 -- ---- by texts
-no_bytes_test : (name : List ℕ) → str_eq_ignore_ascii_case name [] ≡ (length name == 0)
+pub no_bytes_test : (name : List ℕ) → str_eq_ignore_ascii_case name [] ≡ (length name == 0)
 no_bytes_test [] = refl
 no_bytes_test (byte ∷ name) = grind (arith, nat_tests)
 

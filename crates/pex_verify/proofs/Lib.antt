@@ -46,3 +46,8 @@ pub mod Named
 pub mod Coding
 pub mod WholeCode
 pub mod OutlinesMeant
+pub mod WordTypes
+pub mod TypeNames
+pub mod NameTables
+pub mod Telling
+pub mod NativePlaces

@@ -111,3 +111,17 @@ module _ (types : Meanings) (names : List (List ℕ)) where
     first_of_no_state (script ∷ above) state text e =
         let none = numbered-none (IsViewed types names) (λ (g : State). str_eq_ignore_ascii_case g.name state) (λ v g r. no_test names g.name state v.name r.name e) (view_of views script) (states_in (slice_get scripts script)) (states script) in
         ap (λ o. option_or (method_of_state script text o) (first_method scripts above state text)) none ∙ first_of_no_state above state text e
+
+    -- no state has a function of a text without a number
+    none_of_state : (script : ℕ) (text : List ℕ) → number_in names text ≡ None → (a : Option (ℕ × StateView)) (b : Option (ℕ × State)) → AreFound (IsViewed types names) a b → method_of_state script text b ≡ None
+    none_of_state script text e None None h = refl
+    none_of_state script text e None (Some y) h = absurd h
+    none_of_state script text e (Some x) None h = absurd h
+    none_of_state script text e (Some (i, view)) (Some (j, state)) h =
+        ap (method_at script j) (numbered-none (Declares types names) (λ (g : Function). str_eq_ignore_ascii_case g.name text) (λ d g r. no_test names g.name text d.name r.name e) view.functions state.functions h.1.functions)
+
+    pub first_of_no_name : (upward : List ℕ) (s : ℕ) (state text : List ℕ) → number_in names state ≡ Some s → number_in names text ≡ None → first_method scripts upward state text ≡ None
+    first_of_no_name [] s state text f e = refl
+    first_of_no_name (script ∷ above) s state text f e =
+        let found = numbered-zip (IsViewed types names) (λ v. v.name == s) (λ (g : State). str_eq_ignore_ascii_case g.name state) (λ v g r. same_test names g.name state v.name s r.name f) (view_of views script) (states_in (slice_get scripts script)) (states script) in
+        ap (λ o. option_or o (first_method scripts above state text)) (none_of_state script text e _ _ found) ∙ first_of_no_name above s state text f e

@@ -24,23 +24,23 @@ use Rattle.pex_verify.specs.Rules.{Replaces, ReplacesIn, EachReplaces}
 use Rattle.pex_verify.specs.Sets.{JudgedSet}
 use Rattle.pex_verify.specs.Signatures.{Declared, declared_of, declared_by, AreAlike, number_at}
 use Rattle.pex_verify.specs.Whole.{IsJudgedSet}
-use Rattle.pex_verify.proofs.Agreeing.{functions_agree}
+use Rattle.pex_verify.proofs.Agreeing.{functions_agree, views_replace}
 use Rattle.pex_verify.proofs.Collected.{IsScriptAt, script_at, views_past, methods_collected, methods_found}
 use Rattle.pex_verify.proofs.Context.{tables, parents, objects, heads, members, views, views_of_object, state_view, added_view, lacking_declared, collected_members}
 use Rattle.pex_verify.proofs.Facts.{outline_count, heads_count, parents_count, parent_within, outline_parent}
 use Rattle.pex_verify.proofs.Viewed.{views_viewed, views_outlined, have_signatures}
-use Rattle.pex_verify.proofs.Views.{StateView, view_of, KeepsAbove}
+use Rattle.pex_verify.proofs.Views.{StateView, view_of, KeepsAbove, Replaces as AreReplacing}
 
 -- ---- items of lists
 pub item_from_all : {A : Type 0} (P : A → Type 0) (xs : List A) (k : ℕ) (x : A) → All P xs → slice_get xs k ≡ Some x → P x
 item_from_all P xs k x all e = subst P (get_or_from_slice_get xs k x x e) (all k x (slice_get_within xs k x e))
 
-item_of_map : {A B : Type 0} (f : A → B) (xs : List A) (k : ℕ) (y : B) → slice_get (map f xs) k ≡ Some y → (x : A) × (slice_get xs k ≡ Some x) × (f x ≡ y)
+pub item_of_map : {A B : Type 0} (f : A → B) (xs : List A) (k : ℕ) (y : B) → slice_get (map f xs) k ≡ Some y → (x : A) × (slice_get xs k ≡ Some x) × (f x ≡ y)
 item_of_map f [] k y e = absurd (none-some y e)
 item_of_map f (x ∷ xs) zero y e = (x, refl, same_Some (f x) y e)
 item_of_map f (x ∷ xs) (suc k) y e = item_of_map f xs k y e
 
-item_of_joined : {A : Type 0} (xs ys : List A) (k : ℕ) (z : A) → slice_get (xs ++ ys) k ≡ Some z → (slice_get xs k ≡ Some z) ⊎ ((j : ℕ) × (slice_get ys j ≡ Some z))
+pub item_of_joined : {A : Type 0} (xs ys : List A) (k : ℕ) (z : A) → slice_get (xs ++ ys) k ≡ Some z → (slice_get xs k ≡ Some z) ⊎ ((j : ℕ) × (slice_get ys j ≡ Some z))
 item_of_joined [] ys k z e = inr (k, e)
 item_of_joined (x ∷ xs) ys zero z e = inl e
 item_of_joined (x ∷ xs) ys (suc k) z e = item_of_joined xs ys k z e
@@ -235,6 +235,12 @@ module _ {set : JudgedSet} (whole : IsJudgedSet set) where
   views_within script i view e =
       let less = within_views script i view e in
       omega (arith, parents_count whole)
+
+  pub replaces_whole : AreReplacing (outline_of set) (views whole)
+  replaces_whole =
+      views_replace (tables whole).types whole.judged.names (outline_of set) (scripts_of set) (parents whole) (outline_count whole ∙ sym (parents_count whole)) (outline_parent whole)
+      (collected_members whole).methods (λ script name. found_in (tables whole).table.methods (empty_name, name) (rank_of (tables whole) script)) (methods_found whole)
+      (views whole) (function_at (tables whole)) (views_viewed whole) (views_outlined whole) (methods_collected whole) (have_signatures whole) above_within views_within keeps_above
 
   pub functions_are_offered : (script number : ℕ) (name : List ℕ) (signature : Signature) → script < vec_len (tables whole).heads → number_in whole.judged.names name ≡ Some number
       → function_found (tables whole) script number ≡ Some signature → IsOffered (tables whole).types (outline_of set) (scripts_of set) script name signature

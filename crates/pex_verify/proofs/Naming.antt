@@ -38,7 +38,7 @@ named_agrees names heads outline are number script name named found =
     position-zip (λ (head : Head) (shape : ScriptShape). number_in names shape.name ≡ Some head.name) (λ head. head.name == number) (λ (shape : ScriptShape). str_eq_ignore_ascii_case shape.name name) (λ head shape r. same_test names shape.name name head.name number r named) heads outline are ∙ found
 
 -- no name of a list has this one's number
-no_place : {X : Type 0} (xs : List X) → position (λ (x : X). false) xs ≡ None
+pub no_place : {X : Type 0} (xs : List X) → position (λ (x : X). false) xs ≡ None
 no_place {X} xs = ap (λ (n : ℕ). cond (ltb n (length xs)) (Some n) None) (all_passed xs) ∙ ap (λ (b : Bool). cond b (Some (length xs)) None) (le-ltb (length xs) (length xs) (omega arith))
   where
     all_passed : (ys : List X) → position_or_len (λ (x : X). false) ys ≡ length ys

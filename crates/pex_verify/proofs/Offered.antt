@@ -18,7 +18,7 @@ use Rattle.pex_verify.specs.Agreement.{IsOffered}
 use Rattle.pex_verify.specs.Meanings.{Meanings, of_result, result_meaning, value_meaning}
 use Rattle.pex_verify.specs.Signatures.{Declared, declared_of, AreAlike, has_bit}
 use Rattle.pex_verify.proofs.Views.{StateView, view_of, own_found, ViewFound, first_found, offered, AreViewed, Replaces, IsOutlined, StandsBelow, itself}
-use Rattle.pex_verify.proofs.LookUps.{IsMethodOf, AreMethods, first_by_numbers, first_of_no_state}
+use Rattle.pex_verify.proofs.LookUps.{IsMethodOf, AreMethods, first_by_numbers, first_of_no_name, first_of_no_state}
 use Rattle.pex_verify.proofs.Offers.{IsFoundAbove, found_above, below_from_child, OffersAlike, offers_upward, found_alike}
 
 same_kinds : (xs ys : List CoreType) → map (λ kind. Of kind) xs ≡ map (λ kind. Of kind) ys → xs ≡ ys
@@ -132,3 +132,26 @@ module _ (types : Meanings) (names : List (List ℕ)) (outline : List ScriptShap
         on_instances = λ own state child. instance_meets declared t.parameters t.result t.parameters_are t.result_is script name is_offered text named own (below_from_child outline own script child) state;
         on_scripts = empty_meets declared t.parameters t.result t.parameters_are t.result_is script name is_offered text named script itself;
       }
+
+  -- what is found in an empty state is found with the same types in every state
+  module _ (script : ℕ) (text : List ℕ) (method : FoundMethod) (is : first_method scripts (lineage outline (Some script)) [] text ≡ Some method) (state : List ℕ) where
+    KeepsTypes : Type 0
+    KeepsTypes =
+        MethodMeets outline method.function.is_global method.function.parameters method.function.result (method_in scripts (lineage outline (Some script)) state text)
+
+    keeps_by_view : (name : ℕ) → number_in names text ≡ Some name → (a : Option ViewFound) → first_found views (lineage outline (Some script)) 0 name ≡ a → AreMethods types names a (Some method) → KeepsTypes
+    unfolding KeepsTypes Meets
+    keeps_by_view name named None e h = absurd h
+    keeps_by_view name named (Some found) e h =
+        let d = h.declares in
+        subst (λ b. MethodMeets outline b method.function.parameters method.function.result (method_in scripts (lineage outline (Some script)) state text)) (sym d.is_global) (instance_meets found.own.declared method.function.parameters method.function.result d.parameters d.result script name (ap (option_map (λ (f : ViewFound). f.own.declared)) e) text named script itself state)
+
+    keeps_by_number : (number : Option ℕ) → number_in names text ≡ number → KeepsTypes
+    keeps_by_number None named =
+        absurd (none-some method (sym (first_of_no_name types names scripts views viewed.states (lineage outline (Some script)) 0 [] text viewed.empty named) ∙ is))
+    keeps_by_number (Some name) named =
+        keeps_by_view name named (first_found views (lineage outline (Some script)) 0 name) refl (subst (AreMethods types names (first_found views (lineage outline (Some script)) 0 name)) is (first_by_numbers types names scripts views viewed.states (lineage outline (Some script)) 0 name [] text viewed.empty named))
+
+    pub keeps_types : MethodMeets outline method.function.is_global method.function.parameters method.function.result (method_in scripts (lineage outline (Some script)) state text)
+    unfolding KeepsTypes
+    keeps_types = keeps_by_number (number_in names text) refl

@@ -1,20 +1,23 @@
 -- That outlines are what their files say.
 use Rattle.std.proofs.Common.{◌≡◌, ℕ, ◌<◌, ◌==◌, zero, suc, Bool, true, false, cond, List, [], ◌∷◌, ◌++◌, length, get_or, map, Option, Some, None, IfSome, refl, sym, ap, subst, ◌∙◌, arith}
-use Rattle.std.specs.Prelude.{slice_get}
+use Rattle.std.specs.Prelude.{slice_get, bytes_eq, codes, position, unwrap_or}
+use Rattle.std.specs.Cmp.Lexicographic.{bytes_decides}
+use Rattle.std.specs.Str.{str_to_ascii_lowercase}
 use Rattle.std.specs.List.{AllByRecursion, AllZip, filter_map, flat_map}
 use Rattle.std.specs.Option.{option_and_then, option_map}
 use Rattle.std.proofs.lemmas.Bool.{eq-eqb, eqb-false, eqb-true}
 use Rattle.std.proofs.lemmas.List.{get_or-map, length-map, map-append}
-use Rattle.std.proofs.lemmas.Option.{same_Some, slice_get-get_or, slice_get-map}
+use Rattle.std.proofs.lemmas.Option.{none-some, same_Some, slice_get-get_or, slice_get-map}
 use Rattle.std.proofs.lemmas.Simd.{map-map}
 use Rattle.core_tree.specs.declared.core_type.CoreType.{CoreType}
+use Rattle.core_tree.specs.declared.core_type.CoreType.TheVariants as core
 use Rattle.core_tree.specs.declared.outline.OutlineProperty.{OutlineProperty}
 use Rattle.core_tree.specs.declared.outline.OutlineScript.{OutlineScript}
 use Rattle.core_tree.specs.declared.outline.OutlineVariable.{OutlineVariable}
 use Rattle.core_tree.specs.Outlines.{ScriptShape, script_shape}
 use Rattle.pex_meaning.specs.Functions.{Home as Meant, string}
 use Rattle.pex_meaning.specs.Meant.{unless_empty, value_meant, homes_in, homes_of}
-use Rattle.pex_meaning.specs.Names.{are_same, first_named as first_meant, object_names, script_names, string_at}
+use Rattle.pex_meaning.specs.Names.{are_same, first_named as first_meant, object_names, script_names, string_at, value_type}
 use Rattle.pex_meaning.specs.Prelude as meant
 use Rattle.pex_values.specs.declared.values.Datum.{Datum}
 use Rattle.pex_values.specs.declared.values.Datum.TheVariants as datum
@@ -42,13 +45,17 @@ use Rattle.pex_verify.specs.Properties.{IsOfKind, IsProperty}
 use Rattle.pex_verify.specs.Sets.{JudgedSet}
 use Rattle.pex_verify.specs.Signatures.{number_at, title_at}
 use Rattle.pex_verify.specs.Sources.{IsNamed}
+use Rattle.pex_verify.specs.Meanings.{result_meaning, value_meaning, where_none_is_none}
+use Rattle.pex_verify.specs.TypesMeant.{kind_of, AreScripts}
+use Rattle.pex_verify.specs.declared.value_type.ValueType.{ValueType}
+use Rattle.pex_verify.specs.declared.value_type.ValueType.TheVariants.{Nothing, Float, Unknown, Of}
 use Rattle.pex_verify.specs.Variables.{variable_type, type_of_variable, initial_value, IsVariable, AreVariables}
 use Rattle.pex_verify.specs.Whole.{IsJudgedSet}
 use Rattle.pex_verify.proofs.Context.{tables, objects}
 use Rattle.pex_verify.proofs.Agreeing.{zip_from_paired}
 use Rattle.pex_verify.proofs.Facts.{item_at, object_is, outline_parent, source_named, title_number}
 use Rattle.pex_verify.proofs.LookUps.{same_test}
-use Rattle.pex_verify.proofs.Naming.{position-zip}
+use Rattle.pex_verify.proofs.Naming.{no_place, position-zip}
 use Rattle.pex_verify.proofs.PropertyViews.{variable_is}
 
 -- ---- lists
@@ -105,25 +112,41 @@ values_same home kind (datum.Int number) = refl
 values_same home kind (datum.Float bits) = refl
 values_same home kind (datum.Bool byte) = refl
 
-variables_meant : (scripts : List (List ℕ)) (o : Placed) (loaded : List OutlineVariable) → o.source.titles.now ≡ o.source.pex.now.strings.items → AreVariables o.source o.object.variables.items loaded → AllZip (IsVariableMeant (home_at scripts o)) loaded o.object.variables.items
-variables_meant scripts o loaded titles are =
-    by loaded o.object.variables.items are.count (λ n l v h. are.each n v l h)
+-- the variables' types are those that their names mean
+abbrev AreOfKinds : List (List ℕ) → Placed → List OutlineVariable → Type 0
+AreOfKinds scripts o loaded =
+    (n : ℕ) (l : OutlineVariable) (v : PexVariable) → n < length loaded → (get_or loaded n l).kind ≡ value_type scripts (string (home_at scripts o) (get_or o.object.variables.items n v).kind)
+
+variables_meant : (scripts : List (List ℕ)) (o : Placed) (loaded : List OutlineVariable) → o.source.titles.now ≡ o.source.pex.now.strings.items → AreOfKinds scripts o loaded → AreVariables o.source o.object.variables.items loaded → AllZip (IsVariableMeant (home_at scripts o)) loaded o.object.variables.items
+variables_meant scripts o loaded titles kinds are =
+    by loaded o.object.variables.items are.count kinds (λ n l v h. are.each n v l h)
   where
-    by : (ls : List OutlineVariable) (vs : List PexVariable) → length vs ≡ length ls → ((n : ℕ) (l : OutlineVariable) (v : PexVariable) → n < length ls → IsVariable o.source (get_or vs n v) (get_or ls n l)) → AllZip (IsVariableMeant (home_at scripts o)) ls vs
-    by [] [] count each = tt
-    by [] (v ∷ vs) count each = absurd (omega arith)
-    by (l ∷ ls) [] count each = absurd (omega arith)
-    by (l ∷ ls) (v ∷ vs) count each =
+    by : (ls : List OutlineVariable) (vs : List PexVariable) → length vs ≡ length ls → ((n : ℕ) (l : OutlineVariable) (v : PexVariable) → n < length ls → (get_or ls n l).kind ≡ value_type scripts (string (home_at scripts o) (get_or vs n v).kind)) → ((n : ℕ) (l : OutlineVariable) (v : PexVariable) → n < length ls → IsVariable o.source (get_or vs n v) (get_or ls n l)) → AllZip (IsVariableMeant (home_at scripts o)) ls vs
+    by [] [] count kind each = tt
+    by [] (v ∷ vs) count kind each = absurd (omega arith)
+    by (l ∷ ls) [] count kind each = absurd (omega arith)
+    by (l ∷ ls) (v ∷ vs) count kind each =
         let is : IsVariable o.source v l = each 0 l v (omega arith) in (
-          record { name = is.name ∙ ap (λ (t : List (List ℕ)). title_at t v.name) titles; value = is.value ∙ values_same (home_at scripts o) l.kind v.value },
-          by ls vs (omega arith) (λ n a b h. each (suc n) a b (omega arith)),
+          record {
+            name = is.name ∙ ap (λ (t : List (List ℕ)). title_at t v.name) titles;
+            kind = kind 0 l v (omega arith);
+            value = is.value ∙ values_same (home_at scripts o) l.kind v.value;
+          },
+          by ls vs (omega arith) (λ n a b h. kind (suc n) a b (omega arith)) (λ n a b h. each (suc n) a b (omega arith)),
         )
+
+-- a type that is one of values
+kind_known : (meaning : ValueType) (kind : CoreType) → Of kind ≡ where_none_is_none meaning → kind_of meaning ≡ Some kind
+kind_known Nothing kind is = absurd (cc)
+kind_known Float kind is = absurd (cc)
+kind_known Unknown kind is = absurd (cc)
+kind_known (Of other) kind is = cc
 
 -- ---- properties
 property_ready : (home : Home) (outlined : List OutlineVariable) (place : ℕ) (property : PexProperty) (loaded : JudgedProperty)
     → map variable_type outlined ≡ map (type_of_variable home.set.now.types home.source.now.names.now) home.object.now.variables.items
     → IsProperty home place property loaded → IfSome (auto_property loaded) (HasVariable outlined)
-property_ready home outlined place property loaded kinds is =
+property_ready home outlined place property loaded types is =
     by property.variable loaded.variable is.variable
   where
     by : (given variable : Option ℕ) → IsOfKind home property given variable → IfSome (property_with loaded variable) (HasVariable outlined)
@@ -132,7 +155,7 @@ property_ready home outlined place property loaded kinds is =
     by (Some reference) None h = absurd h
     by (Some reference) (Some variable) h =
         sym (slice_get-map (λ (v : OutlineVariable). v.kind) outlined variable)
-        ∙ variable_is home.set.now.types home.source.now.names.now (number_at home.source.now.names.now property.kind) loaded.kind outlined home.object.now.variables.items variable kinds h is.kind
+        ∙ variable_is home.set.now.types home.source.now.names.now (number_at home.source.now.names.now property.kind) loaded.kind outlined home.object.now.variables.items variable types h is.kind
 
 -- ---- objects
 -- the types of the variables of an object of this file
@@ -167,8 +190,8 @@ script_ready judged here o loaded outlined whole = record {
 abbrev parent_named : List (List ℕ) → List ℕ → Option ℕ
 parent_named scripts name = option_and_then (λ parent. first_meant parent scripts) (unless_empty name)
 
-script_meant : (scripts : List (List ℕ)) (judged : Judged) (here : ℕ) (o : Placed) (loaded : JudgedScript) (outlined : OutlineScript) → o.source.titles.now ≡ o.source.pex.now.strings.items → outlined.parent ≡ parent_named scripts (string (home_at scripts o) o.object.parent) → IsWholeObject judged here o loaded outlined → IsOutlineMeant (script_shape outlined) (home_at scripts o)
-script_meant scripts judged here o loaded outlined titles parent whole =
+script_meant : (scripts : List (List ℕ)) (judged : Judged) (here : ℕ) (o : Placed) (loaded : JudgedScript) (outlined : OutlineScript) → o.source.titles.now ≡ o.source.pex.now.strings.items → outlined.parent ≡ parent_named scripts (string (home_at scripts o) o.object.parent) → AreOfKinds scripts o outlined.variables.items → IsWholeObject judged here o loaded outlined → IsOutlineMeant (script_shape outlined) (home_at scripts o)
+script_meant scripts judged here o loaded outlined titles parent kinds whole =
     let is = whole.object in
     let title : (reference : PexObject → ℕ) → title_at is.home.source.now.titles.now (reference is.home.object.now) ≡ string (home_at scripts o) (reference o.object) =
     λ reference. ap (λ (f : SetFile). title_at f.titles.now (reference is.home.object.now)) is.source
@@ -178,7 +201,7 @@ script_meant scripts judged here o loaded outlined titles parent whole =
       name = is.loaded.shape.name ∙ title (λ object. object.name);
       parent = parent;
       auto_state = is.loaded.shape.auto_state ∙ ap unless_empty (title (λ object. object.auto_state));
-      variables = variables_meant scripts o outlined.variables.items titles whole.initial;
+      variables = variables_meant scripts o outlined.variables.items titles kinds whole.initial;
     }
 
 -- ---- names
@@ -281,6 +304,56 @@ module _ {set : JudgedSet} (whole : IsJudgedSet set) where
       ∙ ap (λ (p : ℕ). cond (p == empty_name) None (first_named list p)) of_head
       ∙ parent_by_name (title_at at.source.pex.now.strings.items at.object.parent) number titled
 
+  -- ---- types
+  no_script : (name : List ℕ) → number_in whole.judged.names name ≡ None → first_meant name scripts ≡ None
+  no_script name missing =
+      ap (first_meant name) (sym titles_are)
+      ∙ position-zip (λ (head : Head) (title : List ℕ). number_in whole.judged.names title ≡ Some head.name) (λ head. false) (are_same name) (λ head title r. apart title head.name r) (tables whole).objects (map title_of (objects whole)) heads_named
+      ∙ no_place (tables whole).objects
+    where
+      apart : (title : List ℕ) (number : ℕ) → number_in whole.judged.names title ≡ Some number → are_same name title ≡ false
+      apart title number r =
+          falsely (are_same name title) (λ same.
+          let folded = (bytes_decides (str_to_ascii_lowercase name) (str_to_ascii_lowercase title)).0 same in
+          none-some number (sym missing ∙ ap (λ (l : List ℕ). position (bytes_eq l) whole.judged.names) folded ∙ r))
+
+  script_found : (name : List ℕ) (number : Option ℕ) → number_in whole.judged.names name ≡ number → option_and_then (first_named (tables whole).objects) number ≡ first_meant name scripts
+  script_found name None missing = sym (no_script name missing)
+  script_found name (Some number) named = first_is name number named
+
+  -- the objects by the numbers of their names are the scripts by their names
+  pub are_scripts : AreScripts whole.judged.names (tables whole).objects scripts
+  are_scripts = record {
+    each = λ name. script_found name (number_in whole.judged.names name) refl;
+    few = omega (arith, whole.sound.scripts.numbered, whole.judged.loaded.numbered.count, whole.judged.loaded.objects.script_count);
+    rest = codes "Form" ∷ codes "Quest" ∷ codes "ObjectReference" ∷ flat_map object_names (map plain set.files);
+    first = refl;
+  }
+
+  -- a type whose name is a string of a file
+  pub kind_meant : (source : SetFile) → IsNamed whole.judged.names source → (reference : ℕ) (kind : CoreType) → Of kind ≡ value_meaning (tables whole).types (number_at source.names.now reference) → kind ≡ value_type scripts (title_at source.titles.now reference)
+  kind_meant source named reference kind is =
+      let number = number_at source.names.now reference in
+      let meant = whole.judged.types scripts (title_at source.titles.now reference) number are_scripts (title_number whole source named reference) in
+      sym (ap (λ (o : Option CoreType). unwrap_or o core.Int) (sym meant ∙ kind_known (result_meaning (tables whole).types number) kind is))
+
+  kinds_meant : (n : ℕ) (o : Placed) (s : JudgedScript) (l : OutlineScript) → n < length (objects whole) → AreOfKinds scripts (get_or (objects whole) n o) (get_or set.outline n l).variables.items
+  kinds_meant n o s l within = λ k v f below.
+      let at = get_or (objects whole) n o in
+      let named = source_named whole n o within in
+      let is = object_is whole n o s l within in
+      let outlined = (get_or set.outline n l).variables.items in
+      let given = at.object.variables.items in
+      let of_variable = type_of_variable (tables whole).types at.source.names.now in
+      let counted : length (map variable_type outlined) ≡ length (map of_variable given) = ap length is.variables in
+      let other : k < length given = omega (arith, below, length-map outlined variable_type, length-map given of_variable) in
+      let known : Of (get_or outlined k v).kind ≡ of_variable (get_or given k f) =
+      sym (get_or-map variable_type outlined k v Unknown below)
+      ∙ ap (λ (ts : List ValueType). get_or ts k Unknown) is.variables
+      ∙ get_or-map of_variable given k f Unknown other in
+      kind_meant at.source named (get_or given k f).kind (get_or outlined k v).kind known
+      ∙ ap (λ (t : List (List ℕ)). value_type scripts (title_at t (get_or given k f).kind)) named.titles
+
   pub outlines_meant : AllZip IsOutlineMeant (map script_shape set.outline) (homes_of (map plain set.files))
   outlines_meant =
       let script_count = whole.judged.loaded.objects.script_count in
@@ -289,7 +362,7 @@ module _ {set : JudgedSet} (whole : IsJudgedSet set) where
       (zipped IsOutlineMeant script_shape (home_at scripts) set.outline (objects whole) (sym outline_count)
       (λ n l o h.
       let s = item_at set.scripts n (omega arith) in
-      script_meant scripts _ n (get_or (objects whole) n o) (get_or set.scripts n s.item) (get_or set.outline n l) (source_named whole n o (omega arith)).titles (parent_meant n o l (omega arith) h) (object_is whole n o s.item l (omega arith))))
+      script_meant scripts _ n (get_or (objects whole) n o) (get_or set.scripts n s.item) (get_or set.outline n l) (source_named whole n o (omega arith)).titles (parent_meant n o l (omega arith) h) (kinds_meant n o s.item l (omega arith)) (object_is whole n o s.item l (omega arith))))
 
   pub outlines_ready : AllByRecursion IsReady (map script_shape set.outline)
   outlines_ready =

@@ -71,6 +71,7 @@ module _ {set : JudgedSet} (whole : IsJudgedSet set) where
     pub head : ScriptHead
     pub script : JudgedScript
     pub shape : OutlineScript
+    pub object_at : slice_get (objects whole) n ≡ Some object
     pub head_at : slice_get (heads whole) n ≡ Some head
     pub script_at : slice_get set.scripts n ≡ Some script
     pub shape_at : slice_get set.outline n ≡ Some shape
@@ -97,6 +98,7 @@ module _ {set : JudgedSet} (whole : IsJudgedSet set) where
         head = h.0;
         script = s.0;
         shape = l.0;
+        object_at = o.1;
         head_at = h.1;
         script_at = s.1;
         shape_at = l.1;

@@ -1,5 +1,5 @@
 -- What a whole set was judged by.
-use Rattle.std.proofs.Common.{◌≡◌, ℕ, List, Some, Result, Ok, Err, IfOk, OnOk, [], ◌∷◌, All, map, sym, ap, ◌∙◌}
+use Rattle.std.proofs.Common.{◌≡◌, ℕ, List, Some, Result, Ok, Err, IfOk, OnOk, [], ◌∷◌, All, map, refl, sym, ap, ◌∙◌}
 use Rattle.pex_set.specs.Names.{empty_name, IsGrown, number_in}
 use Rattle.pex_meaning.specs.Prelude as meant
 use Rattle.pex_values.specs.declared.values.Pex.{Pex}
@@ -9,8 +9,8 @@ use Rattle.pex_verify.specs.declared.sources.FileStrings.{FileStrings}
 use Rattle.pex_verify.specs.declared.sources.DefaultMembers.{DefaultMembers}
 use Rattle.pex_verify.specs.declared.sources.SetFile.{SetFile}
 use Rattle.pex_verify.specs.declared.verifier.Tables.{Tables}
-use Rattle.pex_verify.specs.Loading.{IsLoadedSet}
-use Rattle.pex_verify.specs.Whole.{IsPrelude, IsJudged}
+use Rattle.pex_verify.specs.Whole.{IsPrelude, IsJudged, IsSetByNames}
+use Rattle.pex_verify.specs.Kept.{IsJudgedBy}
 use Rattle.pex_verify.specs.Sources.{AreStrings, HaveParts, IsNamed}
 use Rattle.pex_verify.proofs.Strings.{AreStrings-grown}
 
@@ -35,7 +35,7 @@ stands_first members first file list same listed source is_file are_members =
 module _ (names : List (List ℕ)) (members : DefaultMembers) (sources : List SetFile) (prelude : Pex) (files : List Pex)
     (files_are : map (λ source. source.pex.now) sources ≡ prelude ∷ files) (is_prelude : IsPrelude members prelude)
     (empty : number_in names [] ≡ Some empty_name) (named : All (IsNamed names) sources) (own : IsNamed names members.source.now) (parts : All (λ source. HaveParts source.pex.now) sources) where
-  abbrev pub judged_as : (t : Tables) → IsLoadedSet members sources t.parts.scripts.items t.parts.outlines.items t.members → IsJudged files t.parts.scripts.items t.parts.outlines.items
+  abbrev pub judged_as : (t : Tables) → IsSetByNames names members sources t.parts.scripts.items t.parts.outlines.items t.members → IsJudged files t.parts.scripts.items t.parts.outlines.items
   judged_as t loaded = record {
     names = names;
     members = members;
@@ -48,14 +48,18 @@ module _ (names : List (List ℕ)) (members : DefaultMembers) (sources : List Se
     is_prelude = is_prelude;
     members_named = own;
     parts = parts;
-    loaded = loaded;
+    loaded = loaded.loaded;
+    types = loaded.types;
   }
 
 -- what is given was judged by the files behind the prelude, if anything is given
 pub judged_given : {E : Type 0} (result : Result Tables E) (names : List (List ℕ)) (members : DefaultMembers) (sources : List SetFile) (prelude : Pex) (files : List Pex)
     → map (λ source. source.pex.now) sources ≡ prelude ∷ files → IsPrelude members prelude
     → OnOk result (number_in names [] ≡ Some empty_name) → All (IsNamed names) sources → IsNamed names members.source.now → All (λ source. HaveParts source.pex.now) sources
-    → IfOk result (λ t. IsLoadedSet members sources t.parts.scripts.items t.parts.outlines.items t.members) → IfOk result (λ t. IsJudged files t.parts.scripts.items t.parts.outlines.items)
-judged_given (Ok t) names members sources prelude files files_are is_prelude empty named own parts loaded =
-    judged_as names members sources prelude files files_are is_prelude empty named own parts t loaded
+    → IfOk result (λ t. IsSetByNames names members sources t.parts.scripts.items t.parts.outlines.items t.members) → IfOk result (λ t. IsJudgedBy files t.parts.scripts.items t.parts.outlines.items names t.members)
+judged_given (Ok t) names members sources prelude files files_are is_prelude empty named own parts loaded = record {
+  judged = judged_as names members sources prelude files files_are is_prelude empty named own parts t loaded;
+  names_are = refl;
+  members_are = refl;
+}
 judged_given (Err e) names members sources prelude files files_are is_prelude empty named own parts loaded = tt

@@ -16,7 +16,7 @@ use Rattle.pex_verify.specs.Whole.{IsJudgedSet, IsWholeSet}
 use Rattle.pex_verify.proofs.Coding.{zip_count, zip_each, zip_same}
 use Rattle.pex_verify.proofs.Facts.{item_at}
 
-pub whole_coded : (outline : List OutlineScript) (files : List Pex) (scripts : List JudgedScript) (loaded : List LoadedScript)
+abbrev pub whole_coded : (outline : List OutlineScript) (files : List Pex) (scripts : List JudgedScript) (loaded : List LoadedScript)
     → IsJudgedSet (record { outline = outline; files = files; scripts = scripts }) → AllZip (CodesScript (map script_shape outline)) scripts loaded → IsWholeSet (record { outline = outline; files = files; scripts = loaded })
 whole_coded outline files scripts loaded whole zip =
     let count : length scripts ≡ length loaded = zip_count (CodesScript (map script_shape outline)) scripts loaded zip in

@@ -7,14 +7,15 @@ use Rattle.core_tree.specs.declared.outline.OutlineVariable.{OutlineVariable}
 use Rattle.core_tree.specs.Outlines.{ScriptShape}
 use Rattle.pex_meaning.specs.Functions.{Home, string}
 use Rattle.pex_meaning.specs.Meant.{unless_empty, value_meant}
-use Rattle.pex_meaning.specs.Names.{first_named}
+use Rattle.pex_meaning.specs.Names.{first_named, value_type}
 use Rattle.pex_values.specs.declared.values.PexVariable.{PexVariable}
 use Rattle.run_laws.specs.Fits.{Known, HasType}
 
 -- ---- as its file says
--- a variable has the name that its file gives it and, of its type, the initial value
+-- a variable has the name and the type that its file gives it and, of this type, the initial value
 pub record IsVariableMeant (home : Home) (loaded : OutlineVariable) (variable : PexVariable) : Type 0 where
   pub name : loaded.name ≡ string home variable.name
+  pub kind : loaded.kind ≡ value_type home.scripts (string home variable.kind)
   pub value : loaded.value ≡ value_meant home loaded.kind variable.value
 
 -- a script has the name, the parent, the Auto state and the variables of its object

@@ -34,3 +34,7 @@ pub mod Tables
 pub mod Loading
 pub mod Whole
 pub mod AsMeant
+pub mod TypesMeant
+pub mod NameTables
+pub mod Kept
+pub mod Offering

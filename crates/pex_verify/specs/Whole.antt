@@ -15,12 +15,18 @@ use Rattle.pex_verify.specs.Loading.{IsLoadedSet}
 use Rattle.pex_verify.specs.Plain.{outline_of, scripts_of}
 use Rattle.pex_verify.specs.Sets.{JudgedSet, LoadedSet, IsSoundSet}
 use Rattle.pex_verify.specs.Sources.{HaveParts, IsNamed}
+use Rattle.pex_verify.specs.TypesMeant.{AreTypes}
 
 -- what stands before the files is the prelude of the meaning of files, with the members that each script without parent has
 pub record IsPrelude (members : DefaultMembers) (first : Pex) : Type 0 where
   pub file : plain first ≡ meant.prelude
   pub list : map plain_named members.list.now ≡ meant.members
   pub source : members.source.now.pex.now ≡ first
+
+-- what is loaded for the objects of these files, with the types that the names of this table mean
+pub record IsSetByNames (names : List (List ℕ)) (members : DefaultMembers) (sources : List SetFile) (scripts : List JudgedScript) (outlines : List OutlineScript) (table : MemberTable) : Type 0 where
+  pub loaded : IsLoadedSet members sources scripts outlines table
+  pub types : AreTypes names loaded.set.objects loaded.set.types
 
 -- the files, with the numbers of their strings in one table of names, and what is loaded for their objects
 pub record IsJudged (files : List Pex) (scripts : List JudgedScript) (outlines : List OutlineScript) : Type 0 where
@@ -36,6 +42,7 @@ pub record IsJudged (files : List Pex) (scripts : List JudgedScript) (outlines :
   pub members_named : IsNamed names members.source.now
   pub parts : All (λ source. HaveParts source.pex.now) sources
   pub loaded : IsLoadedSet members sources scripts outlines table
+  pub types : AreTypes names loaded.set.objects loaded.set.types
 
 -- a set before its code is made loaded code
 pub record IsJudgedSet (set : JudgedSet) : Type 0 where

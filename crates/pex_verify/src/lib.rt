@@ -12,9 +12,11 @@ mod form;
 mod function;
 mod instruction;
 mod judged;
+mod judged_files;
 mod loaded;
 mod members;
 mod object;
+mod offering;
 mod operand_rules;
 mod outlines_meant;
 mod outlining;
@@ -26,11 +28,12 @@ mod value_type;
 mod verifier;
 
 pub use fault::{VerifyFault, VerifyRule};
+pub use judged_files::{JudgedFiles, judge, verify};
 pub use loaded::Loaded;
 pub use loaded_code::{
     LoadedFunction, LoadedInstruction, LoadedProperty, LoadedScript, MethodPlace, Operand,
     PropertyPlace,
 };
+pub use offering::verified_scripts_offer_what_they_tell;
 pub use outlines_meant::verified_outlines_are_as_meant;
 pub use typed_sets::verified_sets_are_typed;
-pub use verifier::verify;

@@ -1,5 +1,5 @@
 // Sets of files that keep the rules.
-ghost use Rattle.std.specs.Prelude.{◌≡◌, ◌<◌, length, vec_len, slice_index_or, All};
+ghost use Rattle.std.specs.Prelude.{◌≡◌, ◌<◌, length, vec_len, slice_index_or, All, IfOk};
 ghost use Rattle.pex_verify.specs.Files.{IsFile};
 
 use crate::members::{MemberTable, method_place};
@@ -23,19 +23,21 @@ pub struct Loaded {
 }
 
 impl Model for Loaded {
+    ghost use Rattle.pex_verify.specs.Kept.{KeepsTables};
     ghost use Rattle.pex_verify.specs.Sets.{LoadedSet};
-    ghost use Rattle.pex_verify.specs.Whole.{IsWholeSet};
 
     ghost Value = { LoadedSet };
 
     ghost view = { λ l. record { outline = l.outline.scripts.items; files = l.files.items; scripts = l.scripts.items } };
 
-    ghost invariant = { λ l. IsWholeSet (record { outline = l.outline.scripts.items; files = l.files.items; scripts = l.scripts.items }) };
+    ghost invariant = { λ l. KeepsTables (record { outline = l.outline.scripts.items; files = l.files.items; scripts = l.scripts.items }) l.table l.members };
 }
 
 impl Loaded {
     ghost use Rattle.core_tree.specs.declared.outline.OutlineScript.{OutlineScript};
+    ghost use Rattle.pex_set.specs.Names.{number_in};
     ghost use Rattle.pex_verify.specs.Coded.{IsCodedScript};
+    ghost use Rattle.pex_verify.specs.NameTables.{names_in};
     ghost use Rattle.pex_verify.specs.Sets.{AreSoundOutlines};
     ghost use Rattle.pex_verify.specs.Soundness.{bounds_with};
     ghost use Rattle.pex_verify.specs.Whole.{IsWholeSet};
@@ -67,7 +69,9 @@ impl Loaded {
     }
 
     /// The number of a name, with the case of A to Z ignored, none where no file has the name.
-    pub fn name_number(&self, alloc: Global, name: &[u8]) -> Made<Option<usize>> {
+    pub fn name_number(&self, alloc: Global, name: &[u8]) -> Made<Option<usize>>
+        ensures { IfOk result (λ number. number ≡ number_in (names_in self.now.files) name.now) }
+    {
         self.table.find(alloc, name)
     }
 

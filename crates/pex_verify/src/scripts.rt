@@ -3,6 +3,7 @@ ghost use Rattle.std.specs.Prelude.{◌≡◌, map, IsTrue, IfOk, ◌+◌, ◌<�
 ghost use Rattle.pex_verify.specs.Signatures.{number_at, kind_at, has_bit, declared_of, declared_by, AreAlike};
 ghost use Rattle.pex_verify.specs.Fitting.{CastsIn, FitsIn};
 ghost use Rattle.pex_verify.specs.Types.{IsValueTypeAmong};
+ghost use Rattle.pex_verify.specs.TypesMeant.{AreTypes};
 ghost use Rattle.pex_verify.specs.Meanings.{result_meaning, value_meaning};
 ghost use Rattle.pex_verify.specs.Sources.{object_count};
 ghost use Rattle.pex_verify.specs.Heads.{Placed, placed_in, placed_objects, Members, members_of, member_at, parent_at, property_by, empty_state_of, functions_of_state, lacking_in, IsHeadOf, AreHeads};
@@ -350,6 +351,7 @@ impl SetHeads {
         ensures meanings { IfOk result (λ scripts. (name : ℕ) → IsValueTypeAmong (vec_len scripts.heads) (result_meaning scripts.types name)) }
         ensures table { IfOk result (λ scripts. AreAmong parents.now → AreRooted parents.now
             → IsTable parents.now (placed_objects sources.now) scripts.heads.items scripts.table) }
+        ensures types { IfOk result (λ scripts. AreTypes table.now scripts.objects scripts.types) }
     {
         let types = TypeNames::of(alloc, table, &objects)?;
         let mut lists = MemberLists::new(alloc, parents)?;

@@ -1,6 +1,7 @@
 // The files of a set, with the numbers of their names and the source lines of their functions.
 ghost use Rattle.std.specs.Prelude.{◌≡◌, ◌+◌, ◌<◌, ℕ, List, ◌∷◌, length, map, sum_by, All, IfOk, OnOk, vec_len};
-ghost use Rattle.pex_set.specs.Names.{IsGrown};
+ghost use Rattle.pex_set.specs.Names.{with_names, IsGrown};
+ghost use Rattle.pex_verify.specs.NameTables.{with_files};
 ghost use Rattle.pex_verify.specs.Signatures.{title_at};
 ghost use Rattle.pex_verify.specs.Heads.{placed_objects, AreNumbered};
 ghost use Rattle.pex_verify.specs.Sources.{object_count, objects_in, objects_of, AreStrings, AreNamed, HaveParts, IsNamed};
@@ -69,6 +70,7 @@ impl FileStrings {
     pub(crate) fn of(alloc: Global, table: &mut NameNumbers, strings: &[Text]) -> Made<FileStrings>
         ensures strings { IfOk result (AreStrings table.new strings.now) }
         ensures grows { OnOk result (IsGrown table.old table.new) }
+        ensures table { OnOk result (table.new ≡ with_names table.old strings.now) }
     {
         let names = FileNames::of_strings(alloc, table, strings)?;
         let mut titles = Vec::with_capacity(alloc, strings.len())?;
@@ -87,6 +89,7 @@ pub(crate) fn strings_of_files(
 ) -> Made<Vec<FileStrings>>
     ensures strings { IfOk result (λ strings. AreNamed table.new files.now strings.items) }
     ensures grows { OnOk result (IsGrown table.old table.new) }
+    ensures table { OnOk result (table.new ≡ with_files table.old files.now) }
 {
     let mut strings = Vec::with_capacity(alloc, files.len())?;
     for pex in files {

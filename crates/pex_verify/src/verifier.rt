@@ -13,17 +13,15 @@ ghost use Rattle.pex_set.specs.Plain.{HasNoProperties};
 ghost use Rattle.pex_verify.specs.Meanings.{result_meaning};
 ghost use Rattle.pex_verify.specs.Tables.{IsTable};
 ghost use Rattle.pex_verify.specs.Types.{IsValueTypeAmong};
-ghost use Rattle.pex_verify.specs.Loading.{judged_by, AreObjects, IsLoadedSet};
-ghost use Rattle.pex_verify.specs.Whole.{IsJudged};
-ghost use Rattle.pex_verify.specs.Coding.{CodesScript};
+ghost use Rattle.pex_verify.specs.TypesMeant.{AreTypes};
+ghost use Rattle.pex_verify.specs.Loading.{judged_by, AreObjects};
+ghost use Rattle.pex_verify.specs.Whole.{IsSetByNames};
+ghost use Rattle.pex_verify.specs.Kept.{IsJudgedBy};
+ghost use Rattle.pex_verify.specs.NameTables.{names_in};
 ghost use Rattle.pex_verify.specs.Naming.{NameScripts};
-ghost use Rattle.core_tree.specs.Outlines.{script_shape};
-ghost use Rattle.std.specs.List.{AllZip};
 
-use crate::coded::{ScriptNames, coded_scripts};
-use crate::fault::{Site, Valid, VerifyFault, VerifyRule};
+use crate::fault::{Site, Valid, VerifyRule};
 use crate::judged::JudgedScript;
-use crate::loaded::Loaded;
 use crate::members::MemberTable;
 use crate::object::{Loader, ObjectLists, load_object};
 use crate::scripts::SetHeads;
@@ -31,96 +29,35 @@ use crate::sources::{
     DefaultMembers, FileLines, FileStrings, SetFile, all_sources, objects_of, source_of,
     strings_of_files,
 };
-use core_tree::{Outline, OutlineScript};
-use loaded_code::LoadedScript;
-use papy_base::{LIBRARY_COUNT, Made, on_circles};
+use core_tree::OutlineScript;
+use papy_base::{LIBRARY_COUNT, on_circles};
 use pex_set::{EMPTY_NAME, NameNumbers, Objects, Prelude, text_at};
 use pex_values::{Pex, PexObject};
 use std::alloc::Global;
 
-/// The set of these files, of which there are at most 65,535, with the scripts of the prelude before them. Each has the shape
-/// and the size of a file, as what a decoder or `assemble` gives.
-///
-/// `Broken` comes where a rule is broken, with the first place and the lowest rule there. First come the
-/// names, parents and numbers of all objects. Then, by file and object: the object, its variables, its
-/// properties, each before the functions that read and write it, and its states, each before its functions;
-/// and in a function the function itself, its result, its parameters, its locals and its instructions.
-pub fn verify(alloc: Global, files: Vec<Pex>) -> Result<Loaded, VerifyFault>
-    requires few { vec_len files < 65536 }
-    requires valid { All IsFile files.items }
-    ensures files { IfOk result (λ loaded. loaded.files ≡ files.items) }
-    ensures count { IfOk result (λ loaded. length loaded.scripts ≡ script_count files.items) }
-{
-    let mut table = NameNumbers::new(alloc)?;
-    let tables = load_all(alloc, &mut table, files.as_slice())?;
-    let coded = coded_tables(alloc, &table, tables)?;
-    Ok(Loaded {
-        outline: Outline {
-            scripts: coded.outlines,
-        },
-        files,
-        scripts: coded.scripts,
-        table,
-        members: coded.members,
-    })
-}
-
-// Scripts as loaded code, with their outlines, and with what each has from itself upward.
-#[derive(Drop)]
-struct CodedTables {
-    outlines: Vec<OutlineScript>,
-    scripts: Vec<LoadedScript>,
-    members: MemberTable,
-}
-
-fn coded_tables(alloc: Global, table: &NameNumbers, tables: Tables) -> Made<CodedTables>
-    requires { NameScripts table.now tables.objects tables.parts.outlines.items }
-    ensures count { IfOk result (λ coded. vec_len coded.scripts ≡ vec_len tables.parts.scripts) }
-    ensures outlines { IfOk result (λ coded. coded.outlines.items ≡ tables.parts.outlines.items) }
-    ensures scripts { IfOk result (λ coded. AllZip (CodesScript (map script_shape tables.parts.outlines.items)) tables.parts.scripts.items coded.scripts.items) }
-{
-    let Tables {
-        parts,
-        objects,
-        members,
-    } = tables;
-    let Parts { outlines, scripts } = parts;
-    let names = ScriptNames {
-        alloc,
-        names: table,
-        objects: &objects,
-        outline: outlines.as_slice(),
-    };
-    let scripts = coded_scripts(&names, scripts)?;
-    Ok(CodedTables {
-        outlines,
-        scripts,
-        members,
-    })
-}
-
 // Scripts that were loaded, with their outlines.
 #[derive(Drop)]
 pub(crate) struct Parts {
-    outlines: Vec<OutlineScript>,
-    scripts: Vec<JudgedScript>,
+    pub(crate) outlines: Vec<OutlineScript>,
+    pub(crate) scripts: Vec<JudgedScript>,
 }
 
 // The parts of a set, with its objects by name and with what each script has from itself upward.
 #[derive(Drop)]
-struct Tables {
-    parts: Parts,
-    objects: Objects,
-    members: MemberTable,
+pub(crate) struct Tables {
+    pub(crate) parts: Parts,
+    pub(crate) objects: Objects,
+    pub(crate) members: MemberTable,
 }
 
-// All scripts of these files, behind those of the prelude.
-fn load_all(alloc: Global, table: &mut NameNumbers, files: &[Pex]) -> Valid<Tables>
+/// All scripts of these files, behind those of the prelude.
+pub(crate) fn load_all(alloc: Global, table: &mut NameNumbers, files: &[Pex]) -> Valid<Tables>
     requires few { length files.now < 65536 }
     requires valid { All IsFile files.now }
     ensures count { IfOk result (λ tables. vec_len tables.parts.scripts ≡ script_count files.now) }
     ensures sound { IfOk result (λ tables. AreSoundScripts (vec_len tables.parts.scripts) tables.parts.outlines.items tables.parts.scripts.items) }
-    ensures judged { IfOk result (λ tables. IsJudged files.now tables.parts.scripts.items tables.parts.outlines.items) }
+    ensures judged { IfOk result (λ tables. IsJudgedBy files.now tables.parts.scripts.items tables.parts.outlines.items table.new tables.members) }
+    ensures names { table.old ≡ [] ∷ [] → OnOk result (table.new ≡ names_in files.now) }
     ensures named { IfOk result (λ tables. NameScripts table.new tables.objects tables.parts.outlines.items) }
 {
     let prelude = Prelude::new(alloc)?;
@@ -142,7 +79,8 @@ fn load_behind(
     requires plain { All HasNoProperties prelude.now.file.objects.items }
     ensures count { IfOk result (λ tables. vec_len tables.parts.scripts ≡ script_count files.now) }
     ensures sound { IfOk result (λ tables. AreSoundScripts (vec_len tables.parts.scripts) tables.parts.outlines.items tables.parts.scripts.items) }
-    ensures judged { IfOk result (λ tables. IsJudged files.now tables.parts.scripts.items tables.parts.outlines.items) }
+    ensures judged { IfOk result (λ tables. IsJudgedBy files.now tables.parts.scripts.items tables.parts.outlines.items table.new tables.members) }
+    ensures names { table.old ≡ [] ∷ [] → OnOk result (table.new ≡ names_in files.now) }
     ensures named { IfOk result (λ tables. NameScripts table.new tables.objects tables.parts.outlines.items) }
 {
     let prelude_strings = FileStrings::of(alloc, table, prelude.file.strings.as_slice())?;
@@ -167,7 +105,7 @@ fn load_set(
 ) -> Valid<Tables>
     ensures count { IfOk result (λ tables. vec_len tables.parts.scripts ≡ object_count sources.now) }
     ensures sound { IfOk result (λ tables. AreSoundScripts (vec_len tables.parts.scripts) tables.parts.outlines.items tables.parts.scripts.items) }
-    ensures loaded { IfOk result (λ tables. IsLoadedSet members.now sources.now tables.parts.scripts.items tables.parts.outlines.items tables.members) }
+    ensures loaded { IfOk result (λ tables. IsSetByNames table.now members.now sources.now tables.parts.scripts.items tables.parts.outlines.items tables.members) }
     ensures numbered { IfOk result (λ tables. AreNumbered (placed_objects sources.now) tables.objects) }
     ensures empty { OnOk result (number_in table.now [] ≡ Some empty_name) }
 {
@@ -200,6 +138,7 @@ fn judged_scripts(
     ensures rooted { IfOk result (λ scripts. AreRooted (parents_in scripts.objects)) }
     ensures meanings { IfOk result (λ scripts. (name : ℕ) → IsValueTypeAmong (vec_len scripts.heads) (result_meaning scripts.types name)) }
     ensures table { IfOk result (λ scripts. IsTable (parents_in scripts.objects) (placed_objects sources.now) scripts.heads.items scripts.table) }
+    ensures types { IfOk result (λ scripts. AreTypes table.now scripts.objects scripts.types) }
 {
     let objects = objects_of(alloc, sources)?;
     let parents = objects.parents(alloc)?;

@@ -35,8 +35,8 @@ scripts_counted scripts workers texts =
 -- as many files as values
 pub files_counted : (count : ℕ) (set : CompiledSet) → HasFiles count set → length set.files.items ≡ count
 files_counted count set has =
-    let bytes : length (map bytes_of set.files.items) ≡ length (map spelled set.loaded.files) = ap length has.files.bytes in
-    sym (length-map set.files.items bytes_of) ∙ bytes ∙ length-map set.loaded.files spelled ∙ has.number
+    let bytes : length (map bytes_of set.files.items) ≡ length (map spelled set.judged.files) = ap length has.files.bytes in
+    sym (length-map set.files.items bytes_of) ∙ bytes ∙ length-map set.judged.files spelled ∙ has.number
 
 -- the hub and its workers, and one call for each worker
 pub few_parts : (workers : ℕ) (tree : SceneTree) → workers ≤ 200 → IsSampleScene workers tree → HasFewParts tree

@@ -17,7 +17,7 @@ use core_tree::SceneTree;
 use papy_base::{Made, OutOfMemory};
 use papy_io::Desk;
 use pex_values::Pex;
-use pex_verify::{Loaded, VerifyFault, verify};
+use pex_verify::{JudgedFiles, Loaded, VerifyFault, judge, verify};
 use std::alloc::Global;
 
 /// What a command runs.
@@ -167,9 +167,29 @@ fn load_values(alloc: Global, values: Vec<Pex>, first: usize) -> Result<Loaded, 
     }
 }
 
-/// Reads compiled files in order, up to the first that isn't read or breaks a rule, and verifies them together. The
+// Compiled files that may run together, or how the command ends whose files may not.
+fn judge_values(alloc: Global, values: Vec<Pex>, first: usize) -> Result<JudgedFiles, Ending>
+    requires some { 0 < vec_len values }
+    requires few { vec_len values ≤ 256 }
+    requires near { first ≤ 4 }
+    requires valid { All IsFile values.items }
+    ensures files { IfOk result (λ judged. judged.files ≡ values.items) }
+    ensures verifies { Verifies first (vec_len values) result }
+{
+    let count = values.len();
+    match judge(alloc, values) {
+        Ok(judged) => Ok(judged),
+        Err(fault) => Err(unfit_ending(fault, first, count)),
+    }
+}
+
+/// Reads compiled files in order, up to the first that isn't read or breaks a rule, and judges whether they may run together. The
 /// values of the set are those that the files spell, one by one. The first name is the word behind the command's own.
-pub fn read_set<D: Desk>(alloc: Global, names: &[String], desk: &mut D) -> Result<Loaded, Ending>
+pub fn read_set<D: Desk>(
+    alloc: Global,
+    names: &[String],
+    desk: &mut D,
+) -> Result<JudgedFiles, Ending>
     requires idle { D.busy desk.old ≡ Idle }
     requires some { 0 < length names.now }
     requires few { length names.now ≤ 256 }
@@ -190,7 +210,7 @@ pub fn read_set<D: Desk>(alloc: Global, names: &[String], desk: &mut D) -> Resul
     };
     let ReadFiles { values, kept } = files;
     drop(kept);
-    match load_values(alloc, values, 1) {
+    match judge_values(alloc, values, 1) {
         Ok(set) => Ok(set),
         Err(ending) => Err(ending),
     }

@@ -9,11 +9,23 @@ ghost use Rattle.run_commands.specs.Answers.{RunAnswers};
 ghost use Rattle.run_commands.specs.Play.{HasFewParts, PlaysSet};
 
 use crate::play::play;
-use command_files::{Ending, accept, compile_set, load_scene};
+use command_files::{CompileFault, Ending, accept, compile_set, load_scene};
 use core_tree::{CoreSet, SceneTree};
 use latent_natives::Device;
 use papy_io::{Desk, Sink};
+use pex_verify::Loaded;
 use std::alloc::Global;
+
+// The set that the files of accepted scripts are.
+fn loaded_set(alloc: Global, set: &CoreSet) -> Result<Loaded, CompileFault>
+    requires { vec_len set.now.scripts ≤ 65535 }
+{
+    let compiled = compile_set(alloc, set)?;
+    match compiled.judged.load(alloc) {
+        Ok(loaded) => Ok(loaded),
+        Err(_) => Err(CompileFault::OutOfMemory),
+    }
+}
 
 /// Compiles accepted scripts, and runs their files on a scene that the word of this number names.
 pub fn run_set<S: Sink>(
@@ -31,8 +43,8 @@ pub fn run_set<S: Sink>(
     ensures plays { PlaysSet tree word result (S.written out.old) (S.written out.new) }
     ensures kinds { SameKinds (map (λ d. device_state d) devices.old.items) (map (λ d. device_state d) devices.new.items) }
 {
-    match compile_set(alloc, set) {
-        Ok(compiled) => play(alloc, compiled.loaded, tree, word, out, devices),
+    match loaded_set(alloc, set) {
+        Ok(loaded) => play(alloc, loaded, tree, word, out, devices),
         Err(fault) => Ending::from(fault),
     }
 }

@@ -13,9 +13,11 @@ ghost use Rattle.run_laws.specs.Keeps.{SceneFits};
 ghost use Rattle.pex_verify.specs.Plain.{outline_of, scripts_of};
 ghost use Rattle.pex_verify.specs.Sets.{LoadedSet};
 ghost use Rattle.pex_verify.specs.Whole.{IsWholeSet};
-ghost use Rattle.scene_laws.specs.Offers.{NativesHavePlaces, Offers, OutlineFits};
+ghost use Rattle.scene_laws.specs.Offers.{Offers, OutlineFits};
 
-use pex_verify::{verified_outlines_are_as_meant, verified_sets_are_typed};
+use pex_verify::{
+    verified_outlines_are_as_meant, verified_scripts_offer_what_they_tell, verified_sets_are_typed,
+};
 
 /// Where the outline and the code of a set offer what `OutlineFits` and `Offers` say, the values of each scene that is bound to the outline are of the types of
 /// their variables and parameters, its natives have bindings that their types allow, and its calls find functions that take their arguments.
@@ -23,11 +25,12 @@ pub fn scene_fits()
     ensures { (outlines : List OutlineScript) (scripts : List Script) (scene : Scene) → OutlineFits outlines → Offers outlines scripts → IsBound outlines scene → SceneFits (code_types (map script_shape outlines) scripts) (scene_shape scene) }
 {}
 
-/// Of a set that was verified nothing else has to be asked than where its natives stand, and that its code offers what its outline says.
+/// Each scene that is bound to a set that was verified fits it.
 pub fn verified_scenes_fit()
-    ensures { (set : LoadedSet) (scene : Scene) → IsWholeSet set → NativesHavePlaces set.outline → Offers set.outline (scripts_of set) → IsBound set.outline scene → SceneFits (code_types (outline_of set) (scripts_of set)) (scene_shape scene) }
+    ensures { (set : LoadedSet) (scene : Scene) → IsWholeSet set → IsBound set.outline scene → SceneFits (code_types (outline_of set) (scripts_of set)) (scene_shape scene) }
 {
     verified_outlines_are_as_meant();
+    verified_scripts_offer_what_they_tell();
     verified_sets_are_typed();
     scene_fits();
 }

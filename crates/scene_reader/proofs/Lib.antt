@@ -1,1 +1,4 @@
+pub mod Found
+pub mod Ordered
 pub mod Texts
+pub mod Turns

@@ -10,9 +10,12 @@ use Rattle.serde_json.specs.Data.{Data, null, boolean, number, string, array, ob
 use Rattle.serde_json.specs.Read.{max_depth, read}
 use Rattle.serde_json.specs.Written.{IsInOrder, compact_text, has_float}
 use Rattle.serde_json.proofs.Nesting.{depth-read}
+use Rattle.scene_reader.specs.declared.fault.ReadFault.{ReadFault}
+use Rattle.scene_reader.specs.declared.fault.ReadFault.TheVariants as reads
+use Rattle.scene_reader.specs.declared.fault.SceneRule.{SceneRule}
 use Rattle.scene_reader.specs.declared.fault.SceneRule.TheVariants.{NotJson, Limit}
 use Rattle.scene_reader.specs.declared.fault.SceneFault.TheVariants as faults
-use Rattle.scene_reader.specs.SceneText.{IsFaultByRule, IsTextFault, IsUpgraded, json_in, json_rule, text_rule, with_version_2}
+use Rattle.scene_reader.specs.SceneText.{IsFaultByRule, IsTextFault, IsUpgraded, json_in, json_rule, text_fault, text_rule, with_version_2}
 
 pub json_in-read : (bytes : List ℕ) (value : Data) → IsUtf8 bytes → read bytes ≡ Some value → json_in bytes ≡ Some value
 json_in-read bytes value text is = cond-true (is_utf8 bytes) (read bytes) None (is_utf8-from_IsUtf8 bytes text) ∙ is
@@ -65,12 +68,14 @@ depth-json_in bytes value is = depth_by bytes value (is_utf8 bytes) refl is
 
 -- ---- faults
 
-pub by_json : (bytes : List ℕ) → nat_lt 16777216 (length bytes) ≡ false → (IsUtf8 bytes → read bytes ≡ None) → IsTextFault bytes (faults.Broken NotJson)
-by_json bytes small h =
-    subst (λ o. IsFaultByRule o (faults.Broken NotJson)) (sym (text_rule-small bytes None small (json_in-none bytes h))) refl
+memory_always : (o : Option SceneRule) → IsFaultByRule o faults.OutOfMemory
+memory_always None = refl
+memory_always (Some rule) = tt
 
-pub no_rule : (bytes : List ℕ) (value : Data) → nat_lt 16777216 (length bytes) ≡ false → IsUtf8 bytes → read bytes ≡ Some value → text_rule bytes ≡ None
-no_rule bytes value small text is = text_rule-small bytes (Some value) small (json_in-read bytes value text is)
+-- the fault of a text that has no JSON value, or for which there was no memory
+pub refused_text : (bytes : List ℕ) (e : ReadFault) → nat_lt 16777216 (length bytes) ≡ false → (e ≡ reads.Invalid → json_in bytes ≡ None) → IsTextFault bytes (text_fault e)
+refused_text bytes reads.Invalid small h = subst (λ o. IsFaultByRule o (faults.Broken NotJson)) (sym (text_rule-small bytes None small (h refl))) refl
+refused_text bytes reads.OutOfMemory small h = memory_always (text_rule bytes)
 
 -- ---- upgraded texts
 

@@ -1,3 +1,7 @@
 pub mod Default
+pub mod Document
 pub mod Limits
+pub mod Plan
+pub mod Reading
+pub mod SceneOf
 pub mod SceneText

@@ -1,11 +1,17 @@
 -- The JSON value that a scene's text is, the rule that a text breaks before its form is judged, and the text of an upgraded scene.
 use Rattle.std.specs.Prelude.{◌≡◌, ℕ, false, List, length, codes, nat_lt, if◌then◌else◌, Option, Some, None, Result, Ok, Err}
+use Rattle.core_tree.specs.declared.scene_tree.SceneTree.{SceneTree}
 use Rattle.std.specs.Str.{is_utf8}
 use Rattle.serde_json.specs.Data.{Data, null, boolean, number, string, array, object, put, unsigned}
-use Rattle.serde_json.specs.Read.{read}
+use Rattle.serde_json.specs.Read.{read as read_text}
 use Rattle.serde_json.specs.Written.{IsInOrder, compact_text, has_float}
+use Rattle.scene_reader.specs.Plan.{ScenePlan, scene_plan}
+use Rattle.scene_reader.specs.Reading.{Reading, Misshapen, Excessive, Fits}
+use Rattle.scene_reader.specs.SceneOf.{scene}
 use Rattle.scene_reader.specs.declared.fault.PartFault.{PartFault}
 use Rattle.scene_reader.specs.declared.fault.PartFault.TheVariants as part
+use Rattle.scene_reader.specs.declared.fault.ReadFault.{ReadFault}
+use Rattle.scene_reader.specs.declared.fault.ReadFault.TheVariants as read
 use Rattle.scene_reader.specs.declared.fault.SceneFault.{SceneFault}
 use Rattle.scene_reader.specs.declared.fault.SceneFault.TheVariants as faults
 use Rattle.scene_reader.specs.declared.fault.SceneRule.{SceneRule}
@@ -13,7 +19,7 @@ use Rattle.scene_reader.specs.declared.fault.SceneRule.TheVariants.{NotJson, Sha
 
 -- the JSON value that the bytes are, by RFC 8259; of equal keys the last counts
 abbrev pub json_in : List ℕ → Option Data
-json_in bytes = if is_utf8 bytes then read bytes else None
+json_in bytes = if is_utf8 bytes then read_text bytes else None
 
 -- ---- rules
 
@@ -55,6 +61,41 @@ IsFaultByRule (Some rule) fault = IsFaultOf rule fault
 
 abbrev pub IsTextFault : List ℕ → SceneFault → Type 0
 IsTextFault bytes fault = IsFaultByRule (text_rule bytes) fault
+
+-- ---- the scene of a text
+
+abbrev pub judged : Reading ScenePlan → Result ScenePlan SceneRule
+judged Misshapen = Err Shape
+judged Excessive = Err Limit
+judged (Fits plan) = Ok plan
+
+abbrev pub scene_of_json : Option Data → Result ScenePlan SceneRule
+scene_of_json None = Err NotJson
+scene_of_json (Some value) = judged (scene value)
+
+-- the scene of a text, or the first rule that it breaks: it has more than 16 MiB, is no JSON, hasn't the form of a scene, or passes a
+-- limit
+abbrev pub scene_of_text : List ℕ → Result ScenePlan SceneRule
+scene_of_text bytes = if nat_lt 16777216 (length bytes) then Err Limit else scene_of_json (json_in bytes)
+
+-- what was found is the scene, or the fault that of the rule
+abbrev pub IsScene : Result ScenePlan SceneRule → Result SceneTree SceneFault → Type 0
+IsScene (Ok plan) (Ok tree) = plan ≡ scene_plan tree
+IsScene (Ok plan) (Err fault) = fault ≡ faults.OutOfMemory
+IsScene (Err rule) (Ok tree) = ⊥
+IsScene (Err rule) (Err fault) = IsFaultOf rule fault
+
+-- what is made of a scene is refused exactly where there is none, and by its rule
+abbrev pub IsRefusedBy : {T : Type 0} → Result ScenePlan SceneRule → Result T SceneFault → Type 0
+IsRefusedBy (Ok plan) (Ok made) = Unit {0}
+IsRefusedBy (Ok plan) (Err fault) = fault ≡ faults.OutOfMemory
+IsRefusedBy (Err rule) (Ok made) = ⊥
+IsRefusedBy (Err rule) (Err fault) = IsFaultOf rule fault
+
+-- the fault of a text without a JSON value
+abbrev pub text_fault : ReadFault → SceneFault
+text_fault read.Invalid = faults.Broken NotJson
+text_fault read.OutOfMemory = faults.OutOfMemory
 
 -- a part's fault as the scene's
 abbrev pub part_fault : PartFault → SceneFault

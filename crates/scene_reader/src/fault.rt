@@ -1,7 +1,10 @@
 ghost use Rattle.std.specs.Prelude.{◌≡◌};
+ghost use Rattle.scene_reader.specs.SceneText.{part_fault, text_fault};
 ghost use Rattle.scene_reader.specs.declared.fault.PartFault.TheVariants.{OutOfMemory as NoPartMemory};
+ghost use Rattle.scene_reader.specs.declared.fault.ReadFault.TheVariants.{Invalid as NoJson, OutOfMemory as NoRoom};
 ghost use Rattle.scene_reader.specs.declared.fault.SceneFault.TheVariants.{OutOfMemory as NoMemory};
 
+use json::Invalid;
 use papy_base::OutOfMemory;
 use std::alloc::{AllocError, AllocFailed};
 use thiserror::Error;
@@ -48,6 +51,26 @@ impl SceneFault {
         ensures { result ≡ SceneFault.Broken rule }
     {
         SceneFault::Broken { rule }
+    }
+
+    // The fault of a text without a JSON value.
+    pub(crate) fn of_text(fault: ReadFault) -> SceneFault
+        ensures { result ≡ text_fault fault }
+    {
+        match fault {
+            ReadFault::Invalid => SceneFault::of(SceneRule::NotJson),
+            ReadFault::OutOfMemory => SceneFault::OutOfMemory,
+        }
+    }
+
+    // A part's fault as the scene's.
+    pub(crate) fn of_part(part: PartFault) -> SceneFault
+        ensures { result ≡ part_fault part }
+    {
+        match part {
+            PartFault::Shape => SceneFault::of(SceneRule::Shape),
+            PartFault::OutOfMemory => SceneFault::OutOfMemory,
+        }
     }
 }
 
@@ -108,15 +131,35 @@ impl<T: Drop> From<AllocFailed<T>> for PartFault {
     }
 }
 
-impl From<PartFault> for SceneFault {
-    ghost use Rattle.scene_reader.specs.SceneText.{part_fault};
+/// Why a text's JSON value wasn't read.
+#[derive(Clone, Copy)]
+pub(crate) enum ReadFault {
+    /// It has none.
+    Invalid,
+    /// No memory was found.
+    OutOfMemory,
+}
 
-    ghost from_gives = { λ part fault. fault ≡ part_fault part };
+impl From<Invalid> for ReadFault {
+    ghost from_gives = { λ _ fault. fault ≡ NoJson };
 
-    fn from(part: PartFault) -> SceneFault {
-        match part {
-            PartFault::Shape => SceneFault::of(SceneRule::Shape),
-            PartFault::OutOfMemory => SceneFault::OutOfMemory,
-        }
+    fn from(_error: Invalid) -> ReadFault {
+        ReadFault::Invalid
+    }
+}
+
+impl From<AllocError> for ReadFault {
+    ghost from_gives = { λ _ fault. fault ≡ NoRoom };
+
+    fn from(_error: AllocError) -> ReadFault {
+        ReadFault::OutOfMemory
+    }
+}
+
+impl<T: Drop> From<AllocFailed<T>> for ReadFault {
+    ghost from_gives = { λ _ fault. fault ≡ NoRoom };
+
+    fn from(_error: AllocFailed<T>) -> ReadFault {
+        ReadFault::OutOfMemory
     }
 }

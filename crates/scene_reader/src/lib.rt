@@ -2,6 +2,7 @@
 //! calls start stacks, what native functions do, and in which order stacks get their turns.
 #![tactic(auto)]
 
+mod document;
 mod fault;
 mod parts;
 mod scene;

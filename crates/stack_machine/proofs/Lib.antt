@@ -1,8 +1,10 @@
 pub mod AsMany
 pub mod Begun
 pub mod Noting
+pub mod Passes
+pub mod Performing
 pub mod Planning
-pub mod Seats
+pub mod Runs
 pub mod Sinks
-pub mod Starts
+pub mod Standings
 pub mod Waking

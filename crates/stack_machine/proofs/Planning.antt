@@ -1,5 +1,5 @@
 -- How many calls of a plan have a turn before one.
-use Rattle.std.proofs.Common.{◌≡◌, ℕ, zero, suc, ◌+◌, ◌-◌, ◌<◌, ◌≤◌, cond, List, [], ◌∷◌, length, get_or, take, drop, map, sym, ap, ◌∙◌, refl, ⊎_elim, arith}
+use Rattle.std.proofs.Common.{◌≡◌, ℕ, zero, suc, ◌+◌, ◌-◌, ◌<◌, ◌≤◌, cond, List, [], ◌∷◌, length, vec_len, get_or, take, drop, map, sym, ap, ◌∙◌, refl, ⊎_elim, arith}
 use Rattle.std.proofs.lemmas.Bool.{lt-ltb, le-ltb, cases_lt, cond-true, cond-false}
 use Rattle.std.proofs.lemmas.List.{get_or-drop, get_or-take, length-drop, length-map, length-take}
 use Rattle.std.proofs.lemmas.List.Sums.{sum_by-cons, count_by-le-length}
@@ -10,7 +10,9 @@ use Rattle.std.specs.List.Sorted.{IsNonDecreasingBy, IsPermutation}
 use Rattle.core_tree.specs.declared.scene.BoundCall.{BoundCall}
 use Rattle.stack_machine.specs.declared.plan.PlannedCall.{PlannedCall}
 use Rattle.stack_machine.specs.Plans.{ArePlanned, HasBegun, calls_before, planned_before}
-use Rattle.stack_machine.specs.Threads.{ThreadTable}
+use Rattle.stack_machine.specs.declared.world.World.{World}
+use Rattle.stack_machine.specs.Standing.{IsFresh}
+use Rattle.stack_machine.proofs.Standings.{nobody_stands}
 
 -- how many elements have a number before this one
 abbrev pub count_before : {X : Type 0} → (X → ℕ) → ℕ → List X → ℕ
@@ -97,8 +99,8 @@ are_planned listed planned calls same numbers moved up =
     }
 
 -- ---- the stacks that start in a turn
-pub few_at_first : (planned : List PlannedCall) (calls : List BoundCall) (threads : ThreadTable) (turn : ℕ) → HasBegun planned calls threads turn → threads.started ≤ planned_before (turn + 1) planned
-few_at_first planned calls threads turn begun =
+pub few_at_first : (planned : List PlannedCall) (calls : List BoundCall) (world : World) (turn : ℕ) → HasBegun planned calls world turn → vec_len world.stacks ≤ planned_before (turn + 1) planned
+few_at_first planned calls world turn begun =
     omega (arith, begun.started, begun.calls_planned.turns turn, before_next (λ (call : PlannedCall). call.turn) turn planned)
 
 pub one_starts : (planned : List PlannedCall) (calls : List BoundCall) (turn place : ℕ) (d : PlannedCall) → ArePlanned planned calls → place < length planned → (get_or planned place d).turn ≤ turn → place + 1 ≤ planned_before (turn + 1) planned
@@ -132,6 +134,11 @@ left_past read planned first index same within past =
     omega (arith, within, past, ap length same, length-take (length read - first) (drop first read), length-drop first read)
 
 -- before the first turn no stack has started
-pub begun_at_first : (planned : List PlannedCall) (calls : List BoundCall) (threads : ThreadTable) → ArePlanned planned calls → threads.room ≡ length calls → threads.started ≡ 0 → HasBegun planned calls threads 0
-begun_at_first planned calls threads are room started =
-    record { calls_planned = are; room = room; started = started ∙ sym (before_first (λ (call : BoundCall). call.turn) calls) }
+pub begun_at_first : (planned : List PlannedCall) (calls : List BoundCall) (world : World) (instances room : ℕ) → ArePlanned planned calls → IsFresh instances room world → room ≡ length calls → length calls < 65536 → HasBegun planned calls world 0
+begun_at_first planned calls world instances room are fresh same few = record {
+  calls_planned = are;
+  few = few;
+  room = fresh.nobody.room_is ∙ same;
+  started = fresh.stacks ∙ sym (before_first (λ (call : BoundCall). call.turn) calls);
+  stands = nobody_stands instances room (vec_len world.stacks) world.last world.places fresh.nobody fresh.stacks fresh.last;
+}

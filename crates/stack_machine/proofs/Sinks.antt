@@ -8,6 +8,7 @@ use Rattle.stack_machine.specs.declared.status.TurnFault.{TurnFault}
 use Rattle.body_runner.specs.Lines.{fault_line, trace_line}
 use Rattle.papy_base.specs.ReportWords.{escaped, fault_name}
 use Rattle.stack_machine.specs.Machine.{CountsFault, CountsTurn}
+use Rattle.stack_places.proofs.Stands.{same_refl}
 use Rattle.stack_machine.specs.Written.{AppendsLines, IsLines, WritesLines}
 
 -- a count that stood still before
@@ -57,4 +58,4 @@ pub fault_written : (stack : ℕ) (script function : List ℕ) (line : ℕ) (fau
 fault_written stack script function line fault bytes before now is wrote =
     record { bytes = bytes; lines = inr (33 ∷ decimal stack ++ 32 ∷ script ++ 46 ∷ function ++ 58 ∷ decimal line ++ 32 ∷ fault_name fault, is); appended = wrote }
 
-pub ruleset sinks = (appended_none, appends_none, appends_more, appends_written, lines_none, lines_more, lines_some, some_behind_lines, lines_before, counts_later, counts_turn_later)
+pub ruleset sinks = (appended_none, appends_none, appends_more, appends_written, lines_none, lines_more, lines_some, some_behind_lines, lines_before, counts_later, counts_turn_later, same_refl)

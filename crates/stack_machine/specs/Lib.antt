@@ -1,9 +1,9 @@
-pub mod Choices
 pub mod Faults
 pub mod Machine
 pub mod Moves
 pub mod Natives
 pub mod Plans
 pub mod Restoring
-pub mod Threads
+pub mod Runs
+pub mod Standing
 pub mod Written

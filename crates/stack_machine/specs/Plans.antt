@@ -1,10 +1,11 @@
 -- The order in which the stacks of a scene's calls start.
-use Rattle.std.specs.Prelude.{ℕ, ◌≡◌, ◌<◌, List, length, count_by, nat_lt}
+use Rattle.std.specs.Prelude.{ℕ, ◌≡◌, ◌<◌, List, length, vec_len, count_by, nat_lt}
 use Rattle.std.specs.List.{All}
 use Rattle.std.specs.List.Sorted.{IsNonDecreasingBy}
 use Rattle.core_tree.specs.declared.scene.BoundCall.{BoundCall}
 use Rattle.stack_machine.specs.declared.plan.PlannedCall.{PlannedCall}
-use Rattle.stack_machine.specs.Threads.{ThreadTable}
+use Rattle.stack_machine.specs.declared.world.World.{World}
+use Rattle.stack_machine.specs.Standing.{Stands}
 
 -- how many calls have a turn before this one
 abbrev pub calls_before : ℕ → List BoundCall → ℕ
@@ -21,7 +22,9 @@ pub record ArePlanned (planned : List PlannedCall) (calls : List BoundCall) : Ty
   pub many : length planned ≡ length calls
 
 -- there is room for the stacks of all calls, and those have started whose turn is before this one
-pub record HasBegun (planned : List PlannedCall) (calls : List BoundCall) (threads : ThreadTable) (turn : ℕ) : Type 0 where
+pub record HasBegun (planned : List PlannedCall) (calls : List BoundCall) (world : World) (turn : ℕ) : Type 0 where
   pub calls_planned : ArePlanned planned calls
-  pub room : threads.room ≡ length calls
-  pub started : threads.started ≡ calls_before turn calls
+  pub few : length calls < 65536
+  pub room : world.places.room ≡ length calls
+  pub started : vec_len world.stacks ≡ calls_before turn calls
+  pub stands : Stands (vec_len world.stacks) world.last world.places

@@ -1,112 +1,178 @@
-//! What the acts of stacks do to their frames and their locks.
+//! What the acts of a stack in its turn do to its frames and its place.
 
-ghost use Rattle.stack_machine.specs.Threads.{IsSameSize};
+ghost use Rattle.stack_places.specs.Places.{SameStandings};
+ghost use Rattle.stack_machine.specs.Standing.{IsInTurn};
 
-use crate::threads::Threads;
-use body_runner::{Call, CallWay, Frame, Stack};
+use body_runner::{Call, CallWay, Frame, LoadedBody, Stack, Turn};
 use core_tree::Value;
+use loaded_code::LoadedFunction;
 use papy_base::Made;
+use stack_places::Places;
+use std::alloc::Global;
+use std::mem;
 
-/// The stack whose innermost frame made this call.
-pub fn called(
-    threads: &mut Threads,
-    stack: u16,
-    call: Call,
-    innermost: Frame,
-    below: Vec<Frame>,
-) -> Made<Stack>
-    ensures { IsSameSize threads.old threads.new }
-{
-    leave_for(threads, stack, call.way, innermost.instance, call.instance);
-    let below = with_frame(below, innermost)?;
-    Ok(Stack::ToEnter { call, below })
+/// Opens the body that the innermost call of a stack found. The call's arguments are its first slots, and its locals begin with their
+/// defaults.
+pub fn opened(
+    turn: &Turn<'_>,
+    stack: &mut Stack,
+    body: LoadedBody,
+    function: &LoadedFunction,
+) -> Made<()> {
+    let instance = stack.instance();
+    let mut slots = arguments_out(turn.alloc, stack);
+    for (_, kind) in &function.locals {
+        slots.push(Value::default_of(turn.alloc, *kind)?)?;
+    }
+    let below = below_out(turn.alloc, stack);
+    *stack = Stack::Running {
+        innermost: Frame {
+            instance,
+            body,
+            place: 0,
+            slots,
+        },
+        reply: None,
+        below,
+    };
+    Ok(())
 }
 
-/// These frames, and the innermost one.
-pub fn with_frame(below: Vec<Frame>, innermost: Frame) -> Made<Vec<Frame>> {
-    let mut frames = below;
-    frames.push(innermost)?;
-    Ok(frames)
+/// Puts a call on a stack whose innermost body made it.
+pub fn called(turn: &Turn<'_>, places: &mut Places, stack: &mut Stack, call: Call) -> Made<()>
+    requires { IsInTurn turn.now places.old }
+    ensures { SameStandings places.old places.new }
+{
+    leave_for(turn, places, call.way, stack.instance(), call.instance);
+    let below = frames_out(turn.alloc, stack)?;
+    *stack = Stack::ToEnter { call, below };
+    Ok(())
 }
 
 // A stack goes over to the instance of a call that it made. A call of the parent's method keeps the lock.
-fn leave_for(threads: &mut Threads, stack: u16, way: CallWay, from: Option<u16>, to: Option<u16>)
-    ensures { IsSameSize threads.old threads.new }
+fn leave_for(turn: &Turn<'_>, places: &mut Places, way: CallWay, from: Option<u16>, to: Option<u16>)
+    requires { IsInTurn turn.now places.old }
+    ensures { SameStandings places.old places.new }
 {
     match way {
         CallWay::Parent { .. } => {}
-        CallWay::Method(_) => threads.go_over(stack, from, to),
-        CallWay::Global(_) => threads.go_over(stack, from, to),
-        CallWay::Get(_) => threads.go_over(stack, from, to),
-        CallWay::Set(_) => threads.go_over(stack, from, to),
-        CallWay::Missing => threads.go_over(stack, from, to),
+        CallWay::Method(_) => go_over(turn, places, from, to),
+        CallWay::Global(_) => go_over(turn, places, from, to),
+        CallWay::Get(_) => go_over(turn, places, from, to),
+        CallWay::Set(_) => go_over(turn, places, from, to),
+        CallWay::Missing => go_over(turn, places, from, to),
     }
 }
 
-/// The stack whose innermost frame, on this instance, gave a value and was taken off.
-pub fn returned(
-    threads: &mut Threads,
-    stack: u16,
-    own: Option<u16>,
-    value: Value,
-    below: Vec<Frame>,
-) -> Stack
-    ensures { IsSameSize threads.old threads.new }
+fn go_over(turn: &Turn<'_>, places: &mut Places, from: Option<u16>, to: Option<u16>)
+    requires { IsInTurn turn.now places.old }
+    ensures { SameStandings places.old places.new }
 {
-    let mut below = below;
+    let to = places.if_there(to);
+    places.go_over(turn.stack, from, to);
+}
+
+/// Takes off the innermost frame of a stack, which gave a value. The frame below it takes the value, and where there is none
+/// the stack is done.
+pub fn returned(turn: &Turn<'_>, places: &mut Places, stack: &mut Stack, value: Value)
+    requires { IsInTurn turn.now places.old }
+    ensures { SameStandings places.old places.new }
+{
+    let own = stack.instance();
+    let mut below = below_out(turn.alloc, stack);
     match below.pop() {
         Some(caller) => {
-            threads.go_over(stack, own, caller.instance);
-            answered(caller, value, below)
+            go_over(turn, places, own, caller.instance);
+            answer(stack, caller, value, below);
         }
-        None => ended(threads, stack, value),
+        None => end(turn, places, stack, value),
     }
 }
 
-/// The stack whose innermost of these frames is given what a native gave that isn't prompt.
-pub fn rested(
-    threads: &mut Threads,
-    stack: u16,
-    turn: u32,
-    latency: u32,
-    value: Value,
-    below: Vec<Frame>,
-) -> Stack
-    ensures { IsSameSize threads.old threads.new }
+/// Lets a stack rest after a native that isn't prompt. Its innermost body takes the native's reply, or where the native itself was
+/// called the frame below that call.
+pub fn rested(turn: &Turn<'_>, places: &mut Places, stack: &mut Stack, latency: u32, value: Value)
+    requires { IsInTurn turn.now places.old }
+    ensures { SameStandings places.old places.new }
 {
-    let mut below = below;
+    if let Stack::Running {
+        innermost,
+        reply,
+        ..
+    } = stack
+    {
+        rest(turn, places, latency, innermost.instance);
+        *reply = Some(value);
+        return;
+    }
+    let mut below = below_out(turn.alloc, stack);
     match below.pop() {
         Some(caller) => {
-            threads.rest(stack, turn, latency, caller.instance);
-            answered(caller, value, below)
+            rest(turn, places, latency, caller.instance);
+            answer(stack, caller, value, below);
         }
-        None => ended(threads, stack, value),
+        None => end(turn, places, stack, value),
     }
+}
+
+// The turns of all runs and of all natives are far fewer than the most that a number tells.
+fn rest(turn: &Turn<'_>, places: &mut Places, latency: u32, instance: Option<u16>)
+    requires { IsInTurn turn.now places.old }
+    ensures { SameStandings places.old places.new }
+{
+    let latency = latency.min(u32::MAX - 1 - turn.number);
+    let instance = places.if_there(instance);
+    places.rest(turn.stack, turn.number, latency, instance);
 }
 
 // A frame is given a value, with which its stack goes on.
-fn answered(caller: Frame, value: Value, below: Vec<Frame>) -> Stack {
-    Stack::Running {
+fn answer(stack: &mut Stack, caller: Frame, value: Value, below: Vec<Frame>) {
+    *stack = Stack::Running {
         innermost: caller,
         reply: Some(value),
         below,
-    }
+    };
 }
 
 // No frame is left that could take the value.
-fn ended(threads: &mut Threads, stack: u16, value: Value) -> Stack
-    ensures { IsSameSize threads.old threads.new }
+fn end(turn: &Turn<'_>, places: &mut Places, stack: &mut Stack, value: Value)
+    requires { IsInTurn turn.now places.old }
+    ensures { SameStandings places.old places.new }
 {
     drop(value);
-    threads.end(stack);
-    Stack::Done
+    places.finish(turn.stack);
+    *stack = Stack::Done;
 }
 
-/// The stack whose body goes on after a loop pass.
-pub fn passed(innermost: Frame, below: Vec<Frame>) -> Stack {
-    Stack::Running {
-        innermost,
-        reply: None,
-        below,
+// ---- what is taken out of a stack that changes
+
+/// The arguments of a stack's innermost call.
+pub fn arguments_out(alloc: Global, stack: &mut Stack) -> Vec<Value> {
+    match stack {
+        Stack::ToEnter { call, .. } => mem::replace(&mut call.arguments, Vec::new(alloc)),
+        _ => Vec::new(alloc),
     }
+}
+
+// The frames below the innermost one.
+fn below_out(alloc: Global, stack: &mut Stack) -> Vec<Frame> {
+    match stack {
+        Stack::Done => Vec::new(alloc),
+        Stack::ToEnter { below, .. } => mem::replace(below, Vec::new(alloc)),
+        Stack::Running { below, .. } => mem::replace(below, Vec::new(alloc)),
+    }
+}
+
+// All open bodies, the innermost one last.
+fn frames_out(alloc: Global, stack: &mut Stack) -> Made<Vec<Frame>> {
+    let mut frames = below_out(alloc, stack);
+    if let Stack::Running { innermost, .. } = stack {
+        frames.push(Frame {
+            instance: innermost.instance,
+            body: innermost.body,
+            place: innermost.place,
+            slots: mem::replace(&mut innermost.slots, Vec::new(alloc)),
+        })?;
+    }
+    Ok(frames)
 }

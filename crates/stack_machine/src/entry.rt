@@ -1,57 +1,61 @@
 //! What a call finds at its entry.
 
-use body_runner::{Call, CallWay, Found, Frame, LoadedBody, Setting, Store, Turn};
-use core_tree::Value;
-use loaded_code::{MethodPlace, PropertyPlace};
-use papy_base::Made;
-use std::mem;
+use body_runner::{Call, CallWay, Found, LoadedBody, Setting, Store};
+use loaded_code::{LoadedFunction, LoadedProperty, MethodPlace, PropertyPlace};
 
 /// What a look-up finds.
-#[derive(Drop)]
-pub enum Entered {
-    /// A body, which is then open.
-    Opened(Frame),
+#[derive(Clone, Copy)]
+pub enum Entry<'a> {
+    /// A body, and its function.
+    Body(LoadedBody, &'a LoadedFunction),
     /// A native function.
-    NativeThere(MethodPlace),
+    Native(MethodPlace),
     /// A variable of this script, which is read.
-    ReadThere { script: u16, variable: u16 },
+    Read { script: u16, variable: u16 },
     /// A variable of this script, which is written.
-    WriteThere { script: u16, variable: u16 },
+    Write { script: u16, variable: u16 },
     /// Nothing that may be entered.
-    NothingThere,
+    Nothing,
 }
 
-/// Looks a call up. Where it finds a body, the call's arguments are taken.
-pub fn enter(turn: &Turn<'_>, store: &Store, call: &mut Call) -> Made<Entered> {
+/// Looks a call up.
+pub fn entry_of<'a>(setting: &'a Setting, store: &Store, call: &Call) -> Entry<'a> {
     let state = store.state_number(call.instance);
-    match turn.setting.look_up(state, call.instance, call.way) {
-        Some(Found::Body(body)) => opened(turn, call, body),
-        Some(Found::Native(at)) => Ok(Entered::NativeThere(at)),
-        Some(Found::Variable(property, variable)) => {
-            Ok(used(turn.setting, call.way, property, variable))
-        }
-        None => Ok(Entered::NothingThere),
+    match setting.look_up(state, call.instance, call.way) {
+        Some(Found::Body(body)) => body_of(setting, call, body),
+        Some(Found::Native(at)) => Entry::Native(at),
+        Some(Found::Variable(property, variable)) => use_of(setting, call.way, property, variable),
+        None => Entry::Nothing,
     }
 }
 
-// A body opens with as many arguments as its function has parameters. Its locals begin with their defaults.
-fn opened(turn: &Turn<'_>, call: &mut Call, body: LoadedBody) -> Made<Entered> {
-    let Some(function) = turn.setting.function(body) else {
-        return Ok(Entered::NothingThere);
+// A body is entered with as many arguments as its function has parameters.
+fn body_of<'a>(setting: &'a Setting, call: &Call, body: LoadedBody) -> Entry<'a> {
+    let Some(function) = setting.function(body) else {
+        return Entry::Nothing;
     };
     if call.arguments.len() != function.parameters.len() {
-        return Ok(Entered::NothingThere);
+        return Entry::Nothing;
     }
-    let mut slots = mem::replace(&mut call.arguments, Vec::new(turn.alloc));
-    for (_, kind) in &function.locals {
-        slots.push(Value::default_of(turn.alloc, *kind)?)?;
+    Entry::Body(body, function)
+}
+
+// The use of an Auto property that the property allows.
+fn use_of<'a>(
+    setting: &'a Setting,
+    way: CallWay,
+    property: PropertyPlace,
+    variable: u16,
+) -> Entry<'a> {
+    let Some(found) = setting.property(property) else {
+        return Entry::Nothing;
+    };
+    let script = property.script;
+    match way {
+        CallWay::Get(_) if may_read(found) => Entry::Read { script, variable },
+        CallWay::Set(_) if may_write(found) => Entry::Write { script, variable },
+        _ => Entry::Nothing,
     }
-    Ok(Entered::Opened(Frame {
-        instance: call.instance,
-        body,
-        place: 0,
-        slots,
-    }))
 }
 
 // The bits of a property that may be read, and of one that may be written.
@@ -59,15 +63,12 @@ const READ: u8 = 1;
 
 const WRITE: u8 = 2;
 
-// The use of an Auto property that the property allows.
-fn used(setting: &Setting, way: CallWay, property: PropertyPlace, variable: u16) -> Entered {
-    let Some(found) = setting.property(property) else {
-        return Entered::NothingThere;
-    };
-    let script = property.script;
-    match way {
-        CallWay::Get(_) if found.bits & READ != 0 => Entered::ReadThere { script, variable },
-        CallWay::Set(_) if found.bits & WRITE != 0 => Entered::WriteThere { script, variable },
-        _ => Entered::NothingThere,
-    }
+/// Whether a property may be read.
+pub fn may_read(property: &LoadedProperty) -> bool {
+    property.bits & READ != 0
+}
+
+/// Whether a property may be written.
+pub fn may_write(property: &LoadedProperty) -> bool {
+    property.bits & WRITE != 0
 }

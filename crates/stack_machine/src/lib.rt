@@ -13,8 +13,8 @@ mod run;
 mod savable;
 mod snapshot;
 mod sound;
+mod standing;
 mod status;
-mod threads;
 mod turns;
 mod world;
 

@@ -7,12 +7,12 @@ ghost use Rattle.body_runner.specs.Casts.{IsTextOf};
 ghost use Rattle.stack_machine.specs.Machine.{turns_after, fault_after, CountsTurn, HasEnded, HasNothingLeft, HasStarted};
 ghost use Rattle.stack_machine.specs.Moves.{AppendsTurn, NotesEnd};
 ghost use Rattle.stack_machine.specs.Plans.{ArePlanned, HasBegun, calls_before};
+ghost use Rattle.stack_machine.specs.Standing.{IsFresh};
 ghost use Rattle.stack_machine.specs.Written.{WritesLines};
 
 use crate::moves::{MoveSink, NoNotes};
 use crate::plan::Plan;
 use crate::status::{Status, TurnEnd, TurnFault};
-use crate::threads::Threads;
 use crate::world::World;
 use body_runner::{Bindings, Setting, Store, text_of};
 use core_tree::{Outline, Scene, TurnOrder, Value};
@@ -22,6 +22,7 @@ use papy_base::{Made, Text};
 use papy_io::Sink;
 use pex_verify::Loaded;
 use run_replay::LockMove;
+use stack_places::Places;
 use std::alloc::Global;
 use std::marker::Model;
 
@@ -38,16 +39,16 @@ pub struct Machine {
 }
 
 impl Model for Machine {
-    ghost use Rattle.std.specs.Prelude.{◌≡◌, ◌<◌, ◌≤◌, None, vec_len};
+    ghost use Rattle.std.specs.Prelude.{◌≡◌, ◌<◌, ◌≤◌, None, length, vec_len};
     ghost use Rattle.body_runner.specs.Casts.{IsTextOf};
     ghost use Rattle.stack_machine.specs.Machine.{MachineView};
     ghost use Rattle.stack_machine.specs.Plans.{ArePlanned, HasBegun};
 
     ghost Value = { MachineView };
 
-    ghost view = { λ m. record { outline = m.setting.loaded.outline; scene = m.setting.scene; turns = m.turns; started = m.world.threads.started; done = m.world.threads.done; fault = m.fault } };
+    ghost view = { λ m. record { outline = m.setting.loaded.outline; scene = m.setting.scene; turns = m.turns; started = vec_len m.world.stacks; done = length m.world.places.lists.done; fault = m.fault } };
 
-    ghost invariant = { λ m. (vec_len m.setting.scene.instances < 65536) × (vec_len m.setting.scene.calls < 65536) × (m.turns ≤ m.setting.scene.turns) × (m.fault ≡ None → HasBegun m.plan.calls.items m.setting.scene.calls.items m.world.threads m.turns) };
+    ghost invariant = { λ m. (vec_len m.setting.scene.instances < 65536) × (vec_len m.setting.scene.calls < 65536) × (m.turns ≤ m.setting.scene.turns) × (vec_len m.world.stacks < 65536) × (m.fault ≡ None → HasBegun m.plan.calls.items m.setting.scene.calls.items m.world m.turns) };
 }
 
 impl Machine {
@@ -216,17 +217,17 @@ impl Machine {
     fn has_nothing_left(&self) -> bool
         ensures { IsTrue result ↔ HasNothingLeft self.now }
     {
-        let (scene, threads) = (&self.setting.scene, &self.world.threads);
+        let (scene, world) = (&self.setting.scene, &self.world);
         matches!(scene.order, TurnOrder::Round)
-            && threads.are_done()
-            && usize::from(threads.count()) >= scene.calls.len()
+            && world.are_done()
+            && world.stacks.len() >= scene.calls.len()
     }
 
     /// The number of stacks that have started.
     pub fn stack_count(&self) -> u16
         ensures { result ≡ self.now.started }
     {
-        self.world.threads.count()
+        self.world.started()
     }
 
     /// The number of turns that were done.
@@ -256,14 +257,14 @@ impl Machine {
     pub fn status_of(&self, stack: u16) -> Status
         requires { stack < self.now.started }
     {
-        self.world.threads.status_of(stack)
+        self.world.status_of(stack)
     }
 
     /// The stack that holds an instance.
     pub fn owner_of(&self, instance: u16) -> Option<u16>
         requires { instance < vec_len self.now.scene.instances }
     {
-        self.world.threads.owner_of(instance)
+        self.world.owner_of(instance)
     }
 
     /// The text of an instance's state.
@@ -336,8 +337,7 @@ fn initial(
 ) -> Made<Beginning>
     requires instances { vec_len scene.now.instances < 65536 }
     requires calls { vec_len scene.now.calls < 65536 }
-    ensures fresh { IfOk result (λ first. (first.world.threads.started ≡ 0) × (first.world.threads.done ≡ 0)) }
-    ensures room { IfOk result (λ first. first.world.threads.room ≡ vec_len scene.now.calls) }
+    ensures fresh { IfOk result (λ first. IsFresh (vec_len scene.now.instances) (vec_len scene.now.calls) first.world) }
     ensures planned { IfOk result (λ first. ArePlanned first.plan.calls.items scene.now.calls.items) }
     ensures kinds { SameKinds (map (λ d. device_state d) devices.old.items) (map (λ d. device_state d) devices.new.items) }
 {
@@ -355,16 +355,16 @@ fn initial(
 fn initial_world(alloc: Global, loaded: &Loaded, scene: &Scene) -> Made<World>
     requires instances { vec_len scene.now.instances < 65536 }
     requires calls { vec_len scene.now.calls < 65536 }
-    ensures fresh { IfOk result (λ world. (world.threads.started ≡ 0) × (world.threads.done ≡ 0)) }
-    ensures room { IfOk result (λ world. world.threads.room ≡ vec_len scene.now.calls) }
+    ensures { IfOk result (IsFresh (vec_len scene.now.instances) (vec_len scene.now.calls)) }
 {
     let (instances, stacks) = (scene.instances.len() as u16, scene.calls.len() as u16);
     let store = Store::create(alloc, loaded, scene)?;
-    let threads = Threads::with_room(alloc, instances, stacks)?;
     Ok(World {
         alloc,
         store,
-        threads,
+        stacks: Vec::with_capacity(alloc, usize::from(stacks))?,
+        places: Places::with_room(alloc, instances, stacks)?,
+        extra: 0,
         last: None,
     })
 }

@@ -9,6 +9,8 @@ ghost use Rattle.stack_machine.specs.Machine.{CountsTurn};
 ghost use Rattle.stack_machine.specs.Natives.{called_device, device_reply, devices_after, devices_called, first_number, is_prompt, latency_of, line_of, reply_called, reply_value, result_of, traced, turns_asleep};
 ghost use Rattle.body_runner.specs.Settings.{binding_in};
 ghost use Rattle.body_runner.specs.Values.{number_in};
+ghost use Rattle.script_meaning.specs.Requests as meant;
+ghost use Rattle.stack_machine.specs.Runs.{native_at, AreBound, Performs};
 ghost use Rattle.stack_machine.specs.Written.{WritesLines};
 
 use crate::status::TurnFault;
@@ -25,7 +27,8 @@ const LONGEST_SLEEP: i32 = 1_000_000;
 
 /// Whether a native is prompt: its reply comes at once, and no act.
 pub fn is_prompt(setting: &Setting, native: MethodPlace) -> bool
-    ensures { result ≡ is_prompt (binding_in setting.now.bindings.natives.items native) }
+    ensures table { result ≡ is_prompt (binding_in setting.now.bindings.natives.items native) }
+    ensures meant { AreBound setting.now → result ≡ meant.is_prompt (meant.binding_in setting.now.scene.natives.items (native_at native)) }
 {
     match setting.bindings.of_native(native) {
         Some(Binding::PromptTrace) => true,
@@ -39,7 +42,8 @@ pub fn is_prompt(setting: &Setting, native: MethodPlace) -> bool
 
 /// For how many turns a stack sleeps after a native that isn't prompt.
 pub fn latency_of(setting: &Setting, native: MethodPlace, arguments: &[Value]) -> u32
-    ensures { result ≡ latency_of (binding_in setting.now.bindings.natives.items native) arguments.now }
+    ensures table { result ≡ latency_of (binding_in setting.now.bindings.natives.items native) arguments.now }
+    ensures meant { AreBound setting.now → result ≡ meant.latency_of (meant.binding_in setting.now.scene.natives.items (native_at native)) arguments.now }
 {
     match setting.bindings.of_native(native) {
         Some(Binding::Sleep) => sleep_of(arguments),
@@ -62,17 +66,30 @@ pub fn perform<S: Sink>(
     ensures appended { WritesLines result (S.written sink.old) (S.written sink.new) }
     ensures count { CountsTurn result (S.faults sink.old) (S.faults sink.new) }
     ensures kinds { SameKinds (map (λ d. device_state d) devices.old.items) (map (λ d. device_state d) devices.new.items) }
+    ensures performed { AreBound turn.now.setting.now → IfOk result (λ reply. Performs turn.now native arguments.now reply (map (λ d. device_state d) devices.old.items) (map (λ d. device_state d) devices.new.items) (S.written sink.old) (S.written sink.new)) }
+{
+    let binding = turn.setting.bindings.of_native(native);
+    perform_bound(turn, native, binding, arguments, sink, devices)
+}
 
-    // By the binding of the native.
-    ensures line { let binding = binding_in turn.now.setting.now.bindings.natives.items native in
-        OnOk result (Appended (line_of binding turn.now.stack arguments.now) (S.written sink.old) (S.written sink.new)) }
-    ensures devices { let binding = binding_in turn.now.setting.now.bindings.natives.items native in
-        OnOk result (map (λ d. device_state d) devices.new.items ≡ devices_called (called_device binding) (map (λ d. device_state d) devices.old.items) arguments.now) }
-    ensures reply { let binding = binding_in turn.now.setting.now.bindings.natives.items native in
-        let kind = result_of turn.now.setting.now.loaded.outline native in
+// Performs a native that is bound so.
+fn perform_bound<S: Sink>(
+    turn: &Turn<'_>,
+    native: MethodPlace,
+    binding: Option<Binding>,
+    arguments: &[Value],
+    sink: &mut S,
+    devices: &mut Vec<Box<dyn Device>>,
+) -> Result<Value, TurnFault>
+    ensures appended { WritesLines result (S.written sink.old) (S.written sink.new) }
+    ensures count { CountsTurn result (S.faults sink.old) (S.faults sink.new) }
+    ensures kinds { SameKinds (map (λ d. device_state d) devices.old.items) (map (λ d. device_state d) devices.new.items) }
+    ensures line { OnOk result (Appended (line_of binding turn.now.stack arguments.now) (S.written sink.old) (S.written sink.new)) }
+    ensures devices { OnOk result (map (λ d. device_state d) devices.new.items ≡ devices_called (called_device binding) (map (λ d. device_state d) devices.old.items) arguments.now) }
+    ensures reply { let kind = result_of turn.now.setting.now.loaded.outline native in
         IfOk result (λ reply. reply ≡ reply_called (called_device binding) (map (λ d. device_state d) devices.old.items) arguments.now kind) }
 {
-    match turn.setting.bindings.of_native(native) {
+    match binding {
         Some(Binding::Sleep) => Ok(Value::NoneValue),
         Some(Binding::Trace { .. }) => trace(turn, arguments, sink),
         Some(Binding::PromptTrace) => trace(turn, arguments, sink),

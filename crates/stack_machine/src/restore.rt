@@ -1,18 +1,19 @@
 //! A machine that goes on from a state of a run, which was found sound.
 
-ghost use Rattle.std.specs.Prelude.{◌≡◌, ◌+◌, ◌≤◌, ◌<◌, None, IfErr, IfOk, OnOk, length, map, vec_len};
+ghost use Rattle.std.specs.Prelude.{◌≡◌, ◌≤◌, ◌<◌, ℕ, true, None, IfErr, IfOk, IfSome, length, map, vec_len};
 ghost use Rattle.latent_natives.specs.Devices.{SameKinds};
 ghost use Rattle.stack_machine.specs.Plans.{ArePlanned, HasBegun};
 ghost use Rattle.stack_machine.specs.Restoring.{LeavesDevices};
-ghost use Rattle.stack_machine.specs.Threads.{IsSameSize};
+ghost use Rattle.lock_queue.specs.LockTable.{start_after};
+ghost use Rattle.stack_machine.specs.Standing.{ArePlaced, IsSameSize, StandAtMost};
+ghost use Rattle.stack_places.specs.Places.{standings};
 
 use crate::machine::Machine;
 use crate::plan::Plan;
 use crate::snapshot::{HeldDevice, copy_of};
 use crate::sound::is_sound;
 use crate::status::RestoreFault;
-use crate::threads::Threads;
-use crate::world::World;
+use crate::world::{World, depth_of};
 use body_runner::{Bindings, Call, Frame, Setting, Stack, Store};
 use core_tree::{CoreType, Outline, Scene, Value};
 use instance_store::{Arrays, Instance, Instances, ScriptVariables};
@@ -20,6 +21,7 @@ use latent_natives::{Device, load_device};
 use machine_state::{FrameState, MachineState, Way};
 use papy_base::{Made, OutOfMemory, Text, lineage_of};
 use pex_verify::Loaded;
+use stack_places::Places;
 use std::alloc::Global;
 use std::mem;
 
@@ -112,8 +114,8 @@ fn revive(
     requires instances { vec_len setting.now.scene.instances < 65536 }
     requires calls { vec_len setting.now.scene.calls < 65536 }
     ensures turn { IfOk result (λ _. state.old.turn ≤ setting.now.scene.turns) }
-    ensures started { IfOk result (λ world. world.threads.started ≡ vec_len state.old.stacks) }
-    ensures begun { IfOk result (λ world. HasBegun plan.now.calls.items setting.now.scene.calls.items world.threads state.old.turn) }
+    ensures started { IfOk result (λ world. vec_len world.stacks ≡ vec_len state.old.stacks) }
+    ensures begun { IfOk result (λ world. HasBegun plan.now.calls.items setting.now.scene.calls.items world state.old.turn) }
     ensures devices { IfErr result (λ fault. LeavesDevices fault (map (λ d. device_state d) devices.old.items) (map (λ d. device_state d) devices.new.items)) }
     ensures kinds { SameKinds (map (λ d. device_state d) devices.old.items) (map (λ d. device_state d) devices.new.items) }
 {
@@ -123,7 +125,9 @@ fn revive(
     if !are_of_kinds(&state.devices, devices) {
         return Err(RestoreFault::OtherDevices);
     }
-    let world = revived_world(alloc, setting, state)?;
+    let Some(world) = revived_world(alloc, setting, state)? else {
+        return Err(RestoreFault::BadState);
+    };
     load_devices(&state.devices, devices)?;
     Ok(world)
 }
@@ -137,21 +141,47 @@ fn are_of_kinds(told: &[HeldDevice], devices: &Vec<Box<dyn Device>>) -> bool {
             .all(|(device, told)| device.kind() == told.0)
 }
 
-fn revived_world(alloc: Global, setting: &Setting, state: &mut MachineState) -> Made<World>
+// None where some stack doesn't stand in one place, as each of a sound state does.
+fn revived_world(alloc: Global, setting: &Setting, state: &mut MachineState) -> Made<Option<World>>
     requires instances { vec_len setting.now.scene.instances < 65536 }
     requires calls { vec_len setting.now.scene.calls < 65536 }
     requires stacks { vec_len state.old.stacks ≤ vec_len setting.now.scene.calls }
-    ensures room { IfOk result (λ world. world.threads.room ≡ vec_len setting.now.scene.calls) }
-    ensures started { IfOk result (λ world. world.threads.started ≡ vec_len state.old.stacks) }
+    ensures started { IfOk result (λ found. IfSome found (λ world. vec_len world.stacks ≡ vec_len state.old.stacks)) }
+    ensures placed { IfOk result (λ found. IfSome found (λ world. ArePlaced (vec_len setting.now.scene.instances) (vec_len setting.now.scene.calls) (vec_len world.stacks) world.places)) }
+    ensures last { IfOk result (λ found. IfSome found (λ world. start_after world.last ≤ vec_len world.stacks)) }
 {
     let store = revived_store(alloc, setting, state)?;
-    let threads = revived_threads(alloc, setting, state)?;
-    Ok(World {
+    let stacks = revived_stacks(alloc, setting, &mut state.stacks)?;
+    let started = stacks.len() as u16;
+    let Some(places) = revived_places(alloc, &setting.scene, state, &stacks)? else {
+        return Ok(None);
+    };
+    Ok(Some(World {
         alloc,
         store,
-        threads,
-        last: state.last,
-    })
+        extra: extra_of(&stacks),
+        stacks,
+        places,
+        last: within(state.last, started),
+    }))
+}
+
+// A stack where it has started.
+fn within(stack: Option<u16>, started: u16) -> Option<u16>
+    ensures { start_after result ≤ started }
+{
+    match stack {
+        Some(stack) if stack < started => Some(stack),
+        _ => None,
+    }
+}
+
+fn extra_of(stacks: &[Stack]) -> u16 {
+    let mut extra = 0u16;
+    for stack in stacks {
+        extra = extra.saturating_add(depth_of(stack));
+    }
+    extra
 }
 
 // Loads each device with its cells and its place.
@@ -233,40 +263,45 @@ fn revived_scripts(
 // ---- stacks, each in its place
 
 // The stacks of the state, whose values are taken out of it.
-fn revived_threads(alloc: Global, setting: &Setting, state: &mut MachineState) -> Made<Threads>
-    requires instances { vec_len setting.now.scene.instances < 65536 }
-    requires calls { vec_len setting.now.scene.calls < 65536 }
-    requires stacks { vec_len state.old.stacks ≤ vec_len setting.now.scene.calls }
-    ensures room { IfOk result (λ threads. threads.room ≡ vec_len setting.now.scene.calls) }
-    ensures started { IfOk result (λ threads. threads.started ≡ vec_len state.old.stacks) }
-{
-    let scene = &setting.scene;
-    let (instances, room) = (scene.instances.len() as u16, scene.calls.len() as u16);
-    let mut threads = Threads::with_room(alloc, instances, room)?;
-    revive_stacks(alloc, setting, &mut state.stacks, &mut threads)?;
-    take_all(&mut threads, &state.owners);
-    wait_all(&mut threads, &state.waiters);
-    free_all(&mut threads, &state.free);
-    sleep_all(&mut threads, &state.asleep);
-    Ok(threads)
-}
-
-// Adds each stack with its frames.
-fn revive_stacks(
+fn revived_stacks(
     alloc: Global,
     setting: &Setting,
-    stacks: &mut [Vec<FrameState>],
-    threads: &mut Threads,
-) -> Made<()>
-    requires room { threads.old.started + length stacks.old ≤ threads.old.room }
-    ensures room { threads.new.room ≡ threads.old.room }
-    ensures started { OnOk result (threads.new.started ≡ threads.old.started + length stacks.old) }
+    told: &mut [Vec<FrameState>],
+) -> Made<Vec<Stack>>
+    ensures { IfOk result (λ stacks. vec_len stacks ≡ length told.old) }
 {
-    for place in 0..stacks.len() {
-        let stack = revived_stack(alloc, setting, &mut stacks[place])?;
-        threads.add(stack)?;
+    let mut stacks = Vec::with_capacity(alloc, setting.scene.calls.len())?;
+    for place in 0..told.len() {
+        stacks.push(revived_stack(alloc, setting, &mut told[place])?)?;
     }
-    Ok(())
+    Ok(stacks)
+}
+
+// Where the stacks are, none where one of them doesn't stand in one place.
+fn revived_places(
+    alloc: Global,
+    scene: &Scene,
+    state: &MachineState,
+    stacks: &[Stack],
+) -> Made<Option<Places>>
+    requires instances { vec_len scene.now.instances < 65536 }
+    requires calls { vec_len scene.now.calls < 65536 }
+    requires stacks { length stacks.now ≤ vec_len scene.now.calls }
+    ensures { IfOk result (λ found. IfSome found (λ places. ArePlaced (vec_len scene.now.instances) (vec_len scene.now.calls) (length stacks.now) places)) }
+{
+    let (instances, room) = (scene.instances.len() as u16, scene.calls.len() as u16);
+    let mut places = Places::with_room(alloc, instances, room)?;
+    let started = stacks.len() as u16;
+    take_all(&mut places, started, &state.owners);
+    wait_all(&mut places, started, &state.waiters);
+    free_all(&mut places, started, &state.free);
+    sleep_all(&mut places, started, &state.asleep);
+    end_all(&mut places, started, stacks);
+    if !all_stand(&places, started) {
+        drop(places);
+        return Ok(None);
+    }
+    Ok(Some(places))
 }
 
 // A stack, of which all frames but the innermost one are open bodies.
@@ -342,38 +377,140 @@ fn revived_frame(alloc: Global, setting: &Setting, told: &mut FrameState) -> Mad
     })
 }
 
+// A stack that has started and stands nowhere waits for an instance, or runs free where there is none.
+fn wait(places: &mut Places, started: u16, stack: u16, instance: Option<u16>)
+    requires { StandAtMost started places.old }
+    ensures stand { StandAtMost started places.new }
+    ensures size { IsSameSize places.old places.new }
+{
+    if stack >= started {
+        return;
+    }
+    if !places.is_away(stack) {
+        return;
+    }
+    let instance = places.if_there(instance);
+    places.go_to_wait(stack, instance);
+}
+
+// A stack that is ready takes the instance for which it waits.
+fn take(places: &mut Places, started: u16, stack: u16)
+    requires { StandAtMost started places.old }
+    ensures stand { StandAtMost started places.new }
+    ensures size { IsSameSize places.old places.new }
+{
+    if stack >= started {
+        return;
+    }
+    if !places.is_ready(stack) {
+        return;
+    }
+    places.take(stack);
+}
+
+// A stack that has started and stands nowhere sleeps until a turn.
+fn sleep(places: &mut Places, started: u16, stack: u16, until: u32)
+    requires { StandAtMost started places.old }
+    ensures stand { StandAtMost started places.new }
+    ensures size { IsSameSize places.old places.new }
+{
+    if stack >= started {
+        return;
+    }
+    if !places.is_away(stack) {
+        return;
+    }
+    places.sleep(stack, until);
+}
+
+// A stack that has started and stands nowhere is done.
+fn end(places: &mut Places, started: u16, stack: u16)
+    requires { StandAtMost started places.old }
+    ensures stand { StandAtMost started places.new }
+    ensures size { IsSameSize places.old places.new }
+{
+    if stack >= started {
+        return;
+    }
+    if !places.is_away(stack) {
+        return;
+    }
+    places.end(stack);
+}
+
 // Lets stacks hold instances for which nobody waits yet.
-fn take_all(threads: &mut Threads, owners: &[(u16, u16)])
-    ensures { IsSameSize threads.old threads.new }
+fn take_all(places: &mut Places, started: u16, owners: &[(u16, u16)])
+    requires { StandAtMost started places.old }
+    ensures stand { StandAtMost started places.new }
+    ensures size { IsSameSize places.old places.new }
 {
     for owner in owners {
-        threads.go_to_wait(owner.1, Some(owner.0));
-        threads.take(owner.1);
+        wait(places, started, owner.1, Some(owner.0));
+        take(places, started, owner.1);
     }
 }
 
 // Lets stacks wait for the instances of their frames, one behind another.
-fn wait_all(threads: &mut Threads, waiters: &[(u16, u16)])
-    ensures { IsSameSize threads.old threads.new }
+fn wait_all(places: &mut Places, started: u16, waiters: &[(u16, u16)])
+    requires { StandAtMost started places.old }
+    ensures stand { StandAtMost started places.new }
+    ensures size { IsSameSize places.old places.new }
 {
     for waiter in waiters {
-        threads.go_to_wait(waiter.1, Some(waiter.0));
+        wait(places, started, waiter.1, Some(waiter.0));
     }
 }
 
 // Lets stacks run free, whose frames have no instance.
-fn free_all(threads: &mut Threads, free: &[u16])
-    ensures { IsSameSize threads.old threads.new }
+fn free_all(places: &mut Places, started: u16, free: &[u16])
+    requires { StandAtMost started places.old }
+    ensures stand { StandAtMost started places.new }
+    ensures size { IsSameSize places.old places.new }
 {
     for stack in free {
-        threads.go_to_wait(*stack, None);
+        wait(places, started, *stack, None);
     }
 }
 
-fn sleep_all(threads: &mut Threads, asleep: &[(u16, u32)])
-    ensures { IsSameSize threads.old threads.new }
+fn sleep_all(places: &mut Places, started: u16, asleep: &[(u16, u32)])
+    requires { StandAtMost started places.old }
+    ensures stand { StandAtMost started places.new }
+    ensures size { IsSameSize places.old places.new }
 {
     for sleeper in asleep {
-        threads.sleep(sleeper.0, sleeper.1);
+        sleep(places, started, sleeper.0, sleeper.1);
     }
+}
+
+// Lets the stacks that have no frames be done.
+fn end_all(places: &mut Places, started: u16, stacks: &[Stack])
+    requires { StandAtMost started places.old }
+    ensures stand { StandAtMost started places.new }
+    ensures size { IsSameSize places.old places.new }
+{
+    for number in 0..started {
+        if has_ended(stacks, number) {
+            end(places, started, number);
+        }
+    }
+}
+
+fn has_ended(stacks: &[Stack], number: u16) -> bool {
+    match stacks.get(usize::from(number)) {
+        Some(stack) => stack.is_done(),
+        None => false,
+    }
+}
+
+// Whether each of so many stacks stands somewhere.
+fn all_stand(places: &Places, started: u16) -> bool
+    requires { StandAtMost started places.now }
+    ensures { result ≡ true → (k : ℕ) → k < started → standings places.now.lists k ≡ 1 }
+{
+    for stack in 0..started {
+        if places.is_away(stack) {
+            return false;
+        }
+    }
+    true
 }

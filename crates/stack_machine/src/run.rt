@@ -1,17 +1,28 @@
 //! The run of a stack, up to what ends its turn.
 #![tactic(auto, using(crate::proofs::Sinks::sinks))]
 
-ghost use Rattle.std.specs.Prelude.{◌+◌, ◌<◌, ◌≤◌, ◌^◌, IfOk, length, map};
+ghost use Rattle.std.specs.Prelude.{◌≡◌, [], ◌∷◌, IfOk, List, None, OnOk, Some, map, pred, slice_get};
+ghost use Rattle.core_tree.specs.Values.{default_result};
+ghost use Rattle.papy_io.specs.Sink.{Appended};
+ghost use Rattle.script_meaning.specs.World.{Faulted};
+ghost use Rattle.code_meaning.specs.LookUp.{BodyPlace};
+ghost use Rattle.code_meaning.specs.Operands.{place_of};
+ghost use Rattle.loaded_code.specs.declared.instruction.LoadedInstruction.{LoadedInstruction};
+ghost use Rattle.body_runner.specs.Bodies.{home_of};
+ghost use Rattle.body_runner.specs.Rows.{LeavesAt};
+ghost use Rattle.body_runner.specs.Sights.{IsThere};
 ghost use Rattle.latent_natives.specs.Devices.{SameKinds};
 ghost use Rattle.stack_machine.specs.Machine.{CountsTurn};
+ghost use Rattle.stack_machine.specs.Runs.{bytes_of, from_halt, from_passes, from_place, is_pass, Answers, Follows, GivesAt, IsBodyAt, IsHalt, IsReady, RunsTo, Stops};
+ghost use Rattle.stack_machine.specs.declared.run.Act.TheVariants as acts;
 ghost use Rattle.stack_machine.specs.Written.{WritesLines};
 
 use crate::natives::{is_prompt, perform};
 use crate::status::TurnFault;
-use body_runner::{Call, Event, Frame, Home, Inner, Step, Store, Turn, fault_line};
+use body_runner::{Call, Event, Frame, Home, Inner, Row, Step, Store, Turn, fault_line};
 use core_tree::Value;
 use latent_natives::Device;
-use loaded_code::{LoadedInstruction, MethodPlace};
+use loaded_code::MethodPlace;
 use papy_base::{Made, StackFault};
 use papy_io::Sink;
 
@@ -36,14 +47,6 @@ pub enum Act {
 struct Halt {
     at: usize,
     act: Act,
-}
-
-// Where a row of instructions halts, and what the last of them did: it faulted, leads to a place that doesn't lie ahead, or calls
-// or returns. It is done where the code has no more.
-#[derive(Clone, Copy)]
-struct Row {
-    place: usize,
-    halt: Step,
 }
 
 /// Runs a body up to the act that ends the turn. The reply that it awaits is stored first, and it goes on behind its act. One
@@ -72,22 +75,47 @@ pub fn run<S: Sink>(
         script: innermost.body.script(),
         has_room,
     };
-    let mut place = innermost.place;
-    let mut inner = Inner {
-        slots: &mut innermost.slots,
+    let place = innermost.place;
+    let halt = run_from(
+        &home,
+        &mut innermost.slots,
         store,
-    };
-    if let Some(reply) = reply {
-        give(&home, &mut inner, place, reply)?;
-        place = place.saturating_add(1);
-    }
-    let halt = run_on(&home, &mut inner, place, sink, devices)?;
+        place,
+        reply,
+        sink,
+        devices,
+    )?;
     innermost.place = halt.at;
     Ok(halt.act)
 }
 
+// Runs a body from the place of an act. The reply that it awaits is stored first, and it goes on behind its act.
+fn run_from<S: Sink>(
+    home: &Home<'_>,
+    slots: &mut Vec<Value>,
+    store: &mut Store,
+    from: usize,
+    reply: Option<Value>,
+    sink: &mut S,
+    devices: &mut Vec<Box<dyn Device>>,
+) -> Result<Halt, TurnFault>
+    ensures appended { WritesLines result (S.written sink.old) (S.written sink.new) }
+    ensures count { CountsTurn result (S.faults sink.old) (S.faults sink.new) }
+    ensures kinds { SameKinds (map (λ d. device_state d) devices.old.items) (map (λ d. device_state d) devices.new.items) }
+{
+    let mut inner = Inner { slots, store };
+    let mut place = from;
+    if let Some(reply) = reply {
+        give(home, &mut inner, place, reply)?;
+        place = place.saturating_add(1);
+    }
+    run_on(home, &mut inner, place, sink, devices)
+}
+
 // Stores the reply to the act at a place.
-fn give(home: &Home<'_>, inner: &mut Inner<'_>, place: usize, reply: Value) -> Made<()> {
+fn give(home: &Home<'_>, inner: &mut Inner<'_>, place: usize, reply: Value) -> Made<()>
+    ensures { IsThere home.now.instance inner.old.store.now.instances → OnOk result (GivesAt home.now (slice_get home.now.function.now.code.items place) reply inner.old inner.new) }
+{
     match home.function.code.get(place) {
         Some(call) => home.give(inner, call, reply),
         None => {
@@ -108,15 +136,32 @@ fn run_on<S: Sink>(
     ensures appended { WritesLines result (S.written sink.old) (S.written sink.new) }
     ensures count { CountsTurn result (S.faults sink.old) (S.faults sink.new) }
     ensures kinds { SameKinds (map (λ d. device_state d) devices.old.items) (map (λ d. device_state d) devices.new.items) }
+    ensures ran { IsReady home.now inner.old.store.now.instances → IfOk result (λ halt. RunsTo home.now (from_passes home.now (pred home.now.turn.now.setting.now.scene.quantum) from inner.old (map (λ d. device_state d) devices.old.items)) halt (map (λ d. device_state d) devices.new.items) (S.written sink.old) (S.written sink.new) inner.old inner.new) }
+    ensures stops { (place : BodyPlace) → IsBodyAt home.now place → IsReady home.now inner.old.store.now.instances → IfOk result (λ halt. Stops home.now place from halt (map (λ d. device_state d) devices.old.items) (map (λ d. device_state d) devices.new.items) (S.written sink.old) (S.written sink.new) inner.old inner.new) }
 {
     let mut place = from;
-    for _ in 1..home.turn.setting.scene.quantum {
-        match run_pass(home, inner, place, sink, devices)? {
-            Halt { at, act: Act::Pass } => place = at,
-            halt => return Ok(halt),
+    let mut left = home.turn.setting.scene.quantum.saturating_sub(1);
+    while left > 0 {
+        let halt = run_pass(home, inner, place, sink, devices)?;
+        if !is_pass(&halt.act) {
+            return Ok(halt);
         }
+        place = halt.at;
+        drop(halt);
+        left -= 1;
     }
     run_pass(home, inner, place, sink, devices)
+}
+
+fn is_pass(act: &Act) -> bool
+    ensures { result ≡ is_pass act.now }
+{
+    match act {
+        Act::Pass => true,
+        Act::Call(_) => false,
+        Act::Native { .. } => false,
+        Act::Return(_) => false,
+    }
 }
 
 // Runs a body up to the next act. Places only rise.
@@ -130,11 +175,12 @@ fn run_pass<S: Sink>(
     ensures appended { WritesLines result (S.written sink.old) (S.written sink.new) }
     ensures count { CountsTurn result (S.faults sink.old) (S.faults sink.new) }
     ensures kinds { SameKinds (map (λ d. device_state d) devices.old.items) (map (λ d. device_state d) devices.new.items) }
+    ensures ran { IsReady home.now inner.old.store.now.instances → IfOk result (λ halt. RunsTo home.now (from_place home.now from inner.old (map (λ d. device_state d) devices.old.items)) halt (map (λ d. device_state d) devices.new.items) (S.written sink.old) (S.written sink.new) inner.old inner.new) }
 {
     let code = home.function.code.as_slice();
     let mut place = from;
     while place < code.len() {
-        let row = run_row(home, inner, code, place)?;
+        let row = home.run_row(inner, place)?;
         if let Some(halt) = follow(home, inner, sink, devices, row)? {
             return Ok(halt);
         }
@@ -143,41 +189,10 @@ fn run_pass<S: Sink>(
     Ok(returned(home, place)?)
 }
 
-// Runs instructions in a row, up to one after which more has to be done than going on ahead.
-fn run_row(
-    home: &Home<'_>,
-    inner: &mut Inner<'_>,
-    code: &[LoadedInstruction],
-    from: usize,
-) -> Made<Row>
-    requires { from < length code.now }
-    ensures ahead { IfOk result (λ row. from ≤ row.place) }
-    ensures room { IfOk result (λ row. row.place + 1 < 2 ^ 64) }
-{
-    let mut place = from;
-    while place < code.len() {
-        match home.step(inner, &code[place])? {
-            Step::Done => place += 1,
-            Step::Jump(landing) => {
-                if usize::from(landing) <= place {
-                    return Ok(Row {
-                        place,
-                        halt: Step::Jump(landing),
-                    });
-                }
-                place = usize::from(landing);
-            }
-            halt => return Ok(Row { place, halt }),
-        }
-    }
-    Ok(Row {
-        place,
-        halt: Step::Done,
-    })
-}
-
 // A body that ends without a return gives the default of its type.
-fn returned(home: &Home<'_>, place: usize) -> Made<Halt> {
+fn returned(home: &Home<'_>, place: usize) -> Made<Halt>
+    ensures { IfOk result (λ halt. halt ≡ record { at = place; act = acts.Return (default_result home.now.function.now.result) }) }
+{
     let value = Value::default_of(home.turn.alloc, home.function.result)?;
     Ok(Halt {
         at: place,
@@ -197,6 +212,7 @@ fn follow<S: Sink>(
     ensures appended { WritesLines result (S.written sink.old) (S.written sink.new) }
     ensures count { CountsTurn result (S.faults sink.old) (S.faults sink.new) }
     ensures kinds { SameKinds (map (λ d. device_state d) devices.old.items) (map (λ d. device_state d) devices.new.items) }
+    ensures follows { IsReady home.now inner.old.store.now.instances → IsHalt home.now row.place row.halt → IfOk result (λ halt. Follows home.now (from_halt home.now row.place row.halt inner.old (map (λ d. device_state d) devices.old.items)) row.place halt (map (λ d. device_state d) devices.new.items) (S.written sink.old) (S.written sink.new) inner.old inner.new) }
 {
     match row.halt {
         Step::Done => Ok(Some(returned(home, row.place)?)),
@@ -220,6 +236,7 @@ fn leave<S: Sink>(
     ensures appended { WritesLines result (S.written sink.old) (S.written sink.new) }
     ensures count { CountsTurn result (S.faults sink.old) (S.faults sink.new) }
     ensures kinds { SameKinds (map (λ d. device_state d) devices.old.items) (map (λ d. device_state d) devices.new.items) }
+    ensures follows { IsReady home.now inner.old.store.now.instances → LeavesAt home.now place → IfOk result (λ halt. Follows home.now (from_place home.now place inner.old (map (λ d. device_state d) devices.old.items)) place halt (map (λ d. device_state d) devices.new.items) (S.written sink.old) (S.written sink.new) inner.old inner.new) }
 {
     let Some(instruction) = home.function.code.get(place) else {
         return Ok(Some(returned(home, place)?));
@@ -261,6 +278,8 @@ fn answer_native<S: Sink>(
     ensures appended { WritesLines result (S.written sink.old) (S.written sink.new) }
     ensures count { CountsTurn result (S.faults sink.old) (S.faults sink.new) }
     ensures kinds { SameKinds (map (λ d. device_state d) devices.old.items) (map (λ d. device_state d) devices.new.items) }
+    ensures none { IfOk result (λ halt. halt ≡ None) }
+    ensures answered { IsReady home.now inner.old.store.now.instances → (call : LoadedInstruction) → slice_get home.now.function.now.code.items place ≡ Some call → OnOk result (Answers home.now call native arguments.now (map (λ d. device_state d) devices.old.items) (map (λ d. device_state d) devices.new.items) (S.written sink.old) (S.written sink.new) inner.old inner.new) }
 {
     let reply = perform(home.turn, native, arguments, sink, devices)?;
     give(home, inner, place, reply)?;
@@ -276,6 +295,8 @@ fn refuse<S: Sink>(
 ) -> Result<Option<Halt>, TurnFault>
     ensures appended { WritesLines result (S.written sink.old) (S.written sink.new) }
     ensures count { CountsTurn result (S.faults sink.old) (S.faults sink.new) }
+    ensures none { IfOk result (λ halt. halt ≡ None) }
+    ensures prints { OnOk result (Appended (bytes_of (Faulted home.now.turn.now.stack (place_of (home_of home.now) place) fault ∷ [])) (S.written sink.old) (S.written sink.new)) }
 {
     let line = fault_line(home, place, fault)?;
     sink.write(line.as_slice())?;

@@ -39,14 +39,15 @@ impl Machine {
             world: &self.world,
         };
         let count = self.setting.scene.instances.len() as u16;
+        let started = self.stack_count();
         let state = MachineState {
             turn: self.turns,
             last: self.world.last,
             instances: teller.instances(count)?,
             owners: teller.owners(count)?,
-            waiters: teller.waiters()?,
-            free: teller.free()?,
-            asleep: teller.asleep()?,
+            waiters: teller.waiters(started)?,
+            free: teller.free(started)?,
+            asleep: teller.asleep(started)?,
             arrays: teller.arrays()?,
             devices: told_devices(alloc, devices)?,
             stacks: teller.stacks()?,
@@ -95,7 +96,7 @@ impl Teller<'_> {
     fn owners(&self, count: u16) -> Made<Vec<(u16, u16)>> {
         let mut owners = Vec::new(self.alloc);
         for instance in 0..count {
-            if let Some(stack) = self.world.threads.owner_of(instance) {
+            if let Some(stack) = self.world.owner_of(instance) {
                 owners.push((instance, stack))?;
             }
         }
@@ -103,15 +104,14 @@ impl Teller<'_> {
     }
 
     // The stacks that wait, in order of joining.
-    fn waiters(&self) -> Made<Vec<(u16, u16)>> {
-        let threads = &self.world.threads;
+    fn waiters(&self, started: u16) -> Made<Vec<(u16, u16)>> {
         let (mut waiters, mut after) = (Vec::new(self.alloc), None);
-        for _ in 0..threads.count() {
-            let Some(stack) = threads.next_waiter(after) else {
+        for _ in 0..started {
+            let Some(stack) = self.world.next_waiter(after) else {
                 break;
             };
-            if let Some(instance) = threads.waits_for(stack) {
-                waiters.push((instance, stack))?;
+            if let Some(pair) = self.world.wait_of(stack) {
+                waiters.push(pair)?;
             }
             after = Some(stack);
         }
@@ -119,11 +119,10 @@ impl Teller<'_> {
     }
 
     // The stacks that run free.
-    fn free(&self) -> Made<Vec<u16>> {
-        let threads = &self.world.threads;
+    fn free(&self, started: u16) -> Made<Vec<u16>> {
         let mut free = Vec::new(self.alloc);
-        for stack in 0..threads.count() {
-            if matches!(threads.place_of(stack), StackPlace::Free) {
+        for stack in 0..started {
+            if matches!(self.world.place_of(stack), StackPlace::Free) {
                 free.push(stack)?;
             }
         }
@@ -131,11 +130,10 @@ impl Teller<'_> {
     }
 
     // The stacks that sleep, with the turns at which they are due.
-    fn asleep(&self) -> Made<Vec<(u16, u32)>> {
-        let threads = &self.world.threads;
+    fn asleep(&self, started: u16) -> Made<Vec<(u16, u32)>> {
         let mut asleep = Vec::new(self.alloc);
-        for stack in 0..threads.count() {
-            if let StackPlace::Asleep(until) = threads.place_of(stack) {
+        for stack in 0..started {
+            if let StackPlace::Asleep(until) = self.world.place_of(stack) {
                 asleep.push((stack, until))?;
             }
         }
@@ -154,20 +152,17 @@ impl Teller<'_> {
 
     // The frames of each stack that has started, outermost first.
     fn stacks(&self) -> Made<Vec<Vec<FrameState>>>
-        ensures { IfOk result (λ told. vec_len told ≡ self.now.world.now.threads.started) }
+        ensures { IfOk result (λ told. vec_len told ≡ vec_len self.now.world.now.stacks) }
     {
-        let mut told = Vec::new(self.alloc);
-        for stack in 0..self.world.threads.count() {
+        let mut told = Vec::with_capacity(self.alloc, self.world.stacks.len())?;
+        for stack in &self.world.stacks {
             told.push(self.frames(stack)?)?;
         }
         Ok(told)
     }
 
-    fn frames(&self, stack: u16) -> Made<Vec<FrameState>> {
+    fn frames(&self, found: &Stack) -> Made<Vec<FrameState>> {
         let mut told = Vec::new(self.alloc);
-        let Some(found) = self.world.threads.stack(stack) else {
-            return Ok(told);
-        };
         for frame in found.below() {
             told.push(self.frame(frame, None)?)?;
         }

@@ -5,9 +5,10 @@
 ghost use Rattle.std.specs.Prelude.{◌≡◌, ◌≤◌, true, IfOk, length, vec_len};
 ghost use Rattle.stack_machine.specs.Plans.{calls_before};
 
+use crate::entry::{may_read, may_write};
 use crate::restore::{ARRAY_LIMIT, ELEMENT_LIMIT};
 use crate::savable::{is_element_type, pairs_ascend, sleepers_ascend, stacks_ascend};
-use crate::threads::ALL_FRAMES;
+use crate::world::ALL_FRAMES;
 use body_runner::{
     CallWay, FRAME_LIMIT, Found, Setting, element_type, is_call, reply_result, slot_type,
 };
@@ -339,8 +340,8 @@ impl JudgedState<'_> {
             Found::Variable(property, _) => {
                 let found = self.setting.property(property)?;
                 match way {
-                    CallWay::Get(_) if found.bits & READ != 0 => CallTarget::AutoGet(found.kind),
-                    CallWay::Set(_) if found.bits & WRITE != 0 => CallTarget::AutoSet(found.kind),
+                    CallWay::Get(_) if may_read(found) => CallTarget::AutoGet(found.kind),
+                    CallWay::Set(_) if may_write(found) => CallTarget::AutoSet(found.kind),
                     _ => return None,
                 }
             }
@@ -386,11 +387,6 @@ impl CallTarget<'_> {
         }
     }
 }
-
-// The bits of a property that may be read, and of one that may be written.
-const READ: u8 = 1;
-
-const WRITE: u8 = 2;
 
 // ---- stacks
 

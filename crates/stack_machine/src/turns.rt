@@ -1,147 +1,143 @@
 //! The turn of a stack: its innermost call is entered, or its innermost body goes on, up to an act, which is done.
 #![tactic(auto, using(crate::proofs::Sinks::sinks))]
 
-ghost use Rattle.std.specs.Prelude.{map};
+ghost use Rattle.std.specs.Prelude.{OnOk, map};
 ghost use Rattle.latent_natives.specs.Devices.{SameKinds};
 ghost use Rattle.stack_machine.specs.Machine.{CountsTurn};
-ghost use Rattle.stack_machine.specs.Threads.{IsSameSize};
+ghost use Rattle.stack_machine.specs.Standing.{IsInTurn};
 ghost use Rattle.stack_machine.specs.Written.{WritesLines};
+ghost use Rattle.stack_places.specs.Places.{SameStandings};
 
-use crate::acts::{called, passed, rested, returned, with_frame};
-use crate::entry::{Entered, enter};
+use crate::acts::{arguments_out, called, opened, rested, returned};
+use crate::entry::{Entry, entry_of};
 use crate::natives::{is_prompt, latency_of, perform};
 use crate::run::{Act, run};
 use crate::status::TurnFault;
-use crate::threads::Threads;
-use body_runner::{Call, Frame, Stack, Store, Turn};
+use body_runner::{Stack, Store, Turn};
 use core_tree::Value;
 use latent_natives::Device;
 use loaded_code::MethodPlace;
 use papy_base::Made;
 use papy_io::Sink;
+use stack_places::Places;
 use std::mem;
 
-/// The stack after its turn. One that is done stays so, and is never chosen.
+/// Does the turn of a stack. One that is done stays so, and is never chosen.
 pub fn in_turn<S: Sink>(
     turn: &Turn<'_>,
-    threads: &mut Threads,
+    places: &mut Places,
     store: &mut Store,
     has_room: bool,
-    stack: Stack,
+    stack: &mut Stack,
     sink: &mut S,
     devices: &mut Vec<Box<dyn Device>>,
-) -> Result<Stack, TurnFault>
+) -> Result<(), TurnFault>
+    requires { IsInTurn turn.now places.old }
     ensures appended { WritesLines result (S.written sink.old) (S.written sink.new) }
     ensures count { CountsTurn result (S.faults sink.old) (S.faults sink.new) }
     ensures kinds { SameKinds (map (λ d. device_state d) devices.old.items) (map (λ d. device_state d) devices.new.items) }
-    ensures size { IsSameSize threads.old threads.new }
+    ensures places { OnOk result (SameStandings places.old places.new) }
 {
     match stack {
-        Stack::Done => Ok(Stack::Done),
-        Stack::ToEnter { call, below } => {
-            entered(turn, threads, store, has_room, call, below, sink, devices)
+        Stack::Done => Ok(()),
+        Stack::ToEnter { call, .. } => {
+            let entry = entry_of(turn.setting, store, call);
+            entered(turn, places, store, has_room, stack, entry, sink, devices)
         }
-        Stack::Running {
-            innermost,
-            reply,
-            below,
-        } => ran(
-            turn, threads, store, has_room, innermost, reply, below, sink, devices,
-        ),
+        Stack::Running { .. } => ran(turn, places, store, has_room, stack, sink, devices),
     }
 }
 
-// The stack whose innermost call is entered.
+// Enters the innermost call of a stack, which found this.
 fn entered<S: Sink>(
     turn: &Turn<'_>,
-    threads: &mut Threads,
+    places: &mut Places,
     store: &mut Store,
     has_room: bool,
-    call: Call,
-    below: Vec<Frame>,
+    stack: &mut Stack,
+    entry: Entry<'_>,
     sink: &mut S,
     devices: &mut Vec<Box<dyn Device>>,
-) -> Result<Stack, TurnFault>
+) -> Result<(), TurnFault>
+    requires { IsInTurn turn.now places.old }
     ensures appended { WritesLines result (S.written sink.old) (S.written sink.new) }
     ensures count { CountsTurn result (S.faults sink.old) (S.faults sink.new) }
     ensures kinds { SameKinds (map (λ d. device_state d) devices.old.items) (map (λ d. device_state d) devices.new.items) }
-    ensures size { IsSameSize threads.old threads.new }
+    ensures places { OnOk result (SameStandings places.old places.new) }
 {
-    let own = call.instance;
-    let mut call = call;
-    match enter(turn, store, &mut call)? {
-        Entered::Opened(frame) => {
-            drop(call);
-            ran(
-                turn, threads, store, has_room, frame, None, below, sink, devices,
-            )
+    match entry {
+        Entry::Body(body, function) => {
+            opened(turn, stack, body, function)?;
+            ran(turn, places, store, has_room, stack, sink, devices)
         }
-        Entered::NativeThere(at) => {
-            let arguments = call.arguments;
-            native_entered(turn, threads, own, at, arguments, below, sink, devices)
+        Entry::Native(at) => native_entered(turn, places, stack, at, sink, devices),
+        Entry::Read { script, variable } => {
+            let value = read(store, stack.instance(), script, variable)?;
+            returned(turn, places, stack, value);
+            Ok(())
         }
-        Entered::ReadThere { script, variable } => {
-            drop(call);
-            let value = read(store, own, script, variable)?;
-            Ok(returned(threads, turn.stack, own, value, below))
+        Entry::Write { script, variable } => {
+            let value = first_of(arguments_out(turn.alloc, stack));
+            write(store, stack.instance(), script, variable, value);
+            returned(turn, places, stack, Value::NoneValue);
+            Ok(())
         }
-        Entered::WriteThere { script, variable } => {
-            write(store, own, script, variable, first_argument(call.arguments));
-            Ok(returned(threads, turn.stack, own, Value::NoneValue, below))
-        }
-        Entered::NothingThere => {
-            drop(call);
-            Ok(returned(threads, turn.stack, own, Value::NoneValue, below))
+        Entry::Nothing => {
+            returned(turn, places, stack, Value::NoneValue);
+            Ok(())
         }
     }
 }
 
-// The stack whose call on this instance found a native function. Where that is prompt it returns at once.
+// Performs the native function that the innermost call of a stack found. Where that is prompt it returns at once.
 fn native_entered<S: Sink>(
     turn: &Turn<'_>,
-    threads: &mut Threads,
-    own: Option<u16>,
+    places: &mut Places,
+    stack: &mut Stack,
     at: MethodPlace,
-    arguments: Vec<Value>,
-    below: Vec<Frame>,
     sink: &mut S,
     devices: &mut Vec<Box<dyn Device>>,
-) -> Result<Stack, TurnFault>
+) -> Result<(), TurnFault>
+    requires { IsInTurn turn.now places.old }
     ensures appended { WritesLines result (S.written sink.old) (S.written sink.new) }
     ensures count { CountsTurn result (S.faults sink.old) (S.faults sink.new) }
     ensures kinds { SameKinds (map (λ d. device_state d) devices.old.items) (map (λ d. device_state d) devices.new.items) }
-    ensures size { IsSameSize threads.old threads.new }
+    ensures places { OnOk result (SameStandings places.old places.new) }
 {
+    let arguments = arguments_out(turn.alloc, stack);
     if !is_prompt(turn.setting, at) {
-        return native_done(turn, threads, at, arguments, below, sink, devices);
+        return native_done(turn, places, stack, at, arguments, sink, devices);
     }
     let value = perform(turn, at, &arguments, sink, devices)?;
     drop(arguments);
-    Ok(returned(threads, turn.stack, own, value, below))
+    returned(turn, places, stack, value);
+    Ok(())
 }
 
-// A native that isn't prompt is performed, for the innermost of these frames.
+// Performs a native that isn't prompt, and lets its stack rest.
 fn native_done<S: Sink>(
     turn: &Turn<'_>,
-    threads: &mut Threads,
+    places: &mut Places,
+    stack: &mut Stack,
     at: MethodPlace,
     arguments: Vec<Value>,
-    below: Vec<Frame>,
     sink: &mut S,
     devices: &mut Vec<Box<dyn Device>>,
-) -> Result<Stack, TurnFault>
+) -> Result<(), TurnFault>
+    requires { IsInTurn turn.now places.old }
     ensures appended { WritesLines result (S.written sink.old) (S.written sink.new) }
     ensures count { CountsTurn result (S.faults sink.old) (S.faults sink.new) }
     ensures kinds { SameKinds (map (λ d. device_state d) devices.old.items) (map (λ d. device_state d) devices.new.items) }
-    ensures size { IsSameSize threads.old threads.new }
+    ensures places { OnOk result (SameStandings places.old places.new) }
 {
     let value = perform(turn, at, &arguments, sink, devices)?;
     let latency = latency_of(turn.setting, at, &arguments);
     drop(arguments);
-    Ok(rested(threads, turn.stack, turn.number, latency, value, below))
+    rested(turn, places, stack, latency, value);
+    Ok(())
 }
 
-fn first_argument(arguments: Vec<Value>) -> Value {
+fn first_of(arguments: Vec<Value>) -> Value {
     let mut arguments = arguments;
     match arguments.first_mut() {
         Some(value) => mem::replace(value, Value::NoneValue),
@@ -163,54 +159,59 @@ fn write(store: &mut Store, own: Option<u16>, script: u16, variable: u16, value:
     }
 }
 
-// The stack whose innermost body runs to its next act.
+// Runs the innermost body of a stack to its next act, and does that.
 fn ran<S: Sink>(
     turn: &Turn<'_>,
-    threads: &mut Threads,
+    places: &mut Places,
     store: &mut Store,
     has_room: bool,
-    innermost: Frame,
-    reply: Option<Value>,
-    below: Vec<Frame>,
+    stack: &mut Stack,
     sink: &mut S,
     devices: &mut Vec<Box<dyn Device>>,
-) -> Result<Stack, TurnFault>
+) -> Result<(), TurnFault>
+    requires { IsInTurn turn.now places.old }
     ensures appended { WritesLines result (S.written sink.old) (S.written sink.new) }
     ensures count { CountsTurn result (S.faults sink.old) (S.faults sink.new) }
     ensures kinds { SameKinds (map (λ d. device_state d) devices.old.items) (map (λ d. device_state d) devices.new.items) }
-    ensures size { IsSameSize threads.old threads.new }
+    ensures places { OnOk result (SameStandings places.old places.new) }
 {
-    let mut innermost = innermost;
-    let act = run(turn, store, has_room, &mut innermost, reply, sink, devices)?;
-    acted(turn, threads, act, innermost, below, sink, devices)
+    let Stack::Running {
+        innermost,
+        reply,
+        ..
+    } = stack
+    else {
+        return Ok(());
+    };
+    let reply = reply.take();
+    let act = run(turn, store, has_room, innermost, reply, sink, devices)?;
+    acted(turn, places, stack, act, sink, devices)
 }
 
-// The stack whose innermost body came to this act.
+// Does the act to which the innermost body of a stack came. After a loop pass the stack stays as it is.
 fn acted<S: Sink>(
     turn: &Turn<'_>,
-    threads: &mut Threads,
+    places: &mut Places,
+    stack: &mut Stack,
     act: Act,
-    innermost: Frame,
-    below: Vec<Frame>,
     sink: &mut S,
     devices: &mut Vec<Box<dyn Device>>,
-) -> Result<Stack, TurnFault>
+) -> Result<(), TurnFault>
+    requires { IsInTurn turn.now places.old }
     ensures appended { WritesLines result (S.written sink.old) (S.written sink.new) }
     ensures count { CountsTurn result (S.faults sink.old) (S.faults sink.new) }
     ensures kinds { SameKinds (map (λ d. device_state d) devices.old.items) (map (λ d. device_state d) devices.new.items) }
-    ensures size { IsSameSize threads.old threads.new }
+    ensures places { OnOk result (SameStandings places.old places.new) }
 {
     match act {
-        Act::Pass => Ok(passed(innermost, below)),
-        Act::Call(call) => Ok(called(threads, turn.stack, call, innermost, below)?),
+        Act::Pass => Ok(()),
+        Act::Call(call) => Ok(called(turn, places, stack, call)?),
         Act::Native { at, arguments } => {
-            let frames = with_frame(below, innermost)?;
-            native_done(turn, threads, at, arguments, frames, sink, devices)
+            native_done(turn, places, stack, at, arguments, sink, devices)
         }
         Act::Return(value) => {
-            let own = innermost.instance;
-            drop(innermost);
-            Ok(returned(threads, turn.stack, own, value, below))
+            returned(turn, places, stack, value);
+            Ok(())
         }
     }
 }

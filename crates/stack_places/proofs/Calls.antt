@@ -1,5 +1,6 @@
 -- What each call leaves, from what it leaves of locks, sleepers and stacks that are done.
-use Rattle.std.proofs.Common.{◌≡◌, ℕ, zero, suc, ◌+◌, ◌<◌, Bool, true, false, cond, List, [], ◌∷◌, ◌++◌, length, Option, Some, None, refl, sym, ap, subst, ◌∙◌, arith, ◌⊎◌, inl, inr}
+use Rattle.std.proofs.Common.{◌≡◌, ℕ, zero, suc, ◌+◌, ◌<◌, Bool, true, false, cond, List, [], ◌∷◌, ◌++◌, length, Option, Some, None, refl, sym, ap, subst, ◌∙◌, arith, ◌⊎◌, inl, inr, IfSome, ◌≤◌}
+use Rattle.run_laws.specs.Exclusive.{first_is, how_many}
 use Rattle.std.specs.Prelude.{slice_set, position, replicate}
 use Rattle.std.specs.List.{filter}
 use Rattle.script_meaning.specs.Turns.{is_due, not_due}
@@ -10,9 +11,8 @@ use Rattle.lock_queue.specs.declared.seat.Seat.TheVariants.{Resting, Free, Waits
 use Rattle.lock_queue.specs.LockTable as table
 use Rattle.lock_queue.specs.LockTable.{LockTable, held_by, holds, may_take, seat_at, seat_of, waits_for, without_stack}
 use Rattle.script_meaning.specs.Locks.{ends, goes_to_wait, let_go, sleeps, takes}
-use Rattle.script_meaning.specs.World.{World}
 use Rattle.stack_places.specs.Lists.{is_free, is_true, numbers_of, owners_from, pair_of, pairs_from}
-use Rattle.stack_places.specs.Places.{IsAway, IsReady, Moves, NobodyStands, NoneIsDue, PlaceTable, Runs, TakesDue, TakesFirst, table_of}
+use Rattle.stack_places.specs.Places.{IsAway, IsReady, Moves, NobodyStands, NoneIsDue, PlaceTable, Runs, TakesDue, TakesFirst, due_in, table_of}
 use Rattle.stack_places.proofs.Moving.{falls_asleep, is_ended, joins, lets_go, runs_free, takes_none, takes_one}
 use Rattle.stack_places.proofs.Numbers as numbers
 use Rattle.stack_places.proofs.Readiness.{ready_by_seat}
@@ -94,6 +94,16 @@ module _ (locks : LockTable) (sleepers : List (Option ℕ)) (done : List Bool) w
               room = refl;
               there = omega (arith, below, number, same);
             })
+
+  -- those that are still due have higher numbers
+  pub woken_first : (turn : ℕ) (o : Option ℕ) (new : List (Option ℕ)) → o ≡ position (sleeping.is_due turn) sleepers → new ≡ sleeping.without_first_due turn sleepers → IfSome o (λ (m : ℕ). (j : ℕ) → 1 ≤ how_many (first_is j) (due_in turn (table_of locks new done).lists) → m < j)
+  woken_first turn None new oe e = tt
+  woken_first turn (Some m) new oe e = λ j h.
+      let found = due_first turn m sleepers (sym oe) in
+      let number = found.number in
+      let here : m ≡ found.k = omega (arith, number) in
+      let is : new ≡ slice_set sleepers found.k None = e ∙ (ap (sleeping.without sleepers) (sym oe) ∙ ap (λ n. slice_set sleepers n None) here) in
+      found.later j (subst (λ (s : List (Option ℕ)). 1 ≤ how_many (first_is j) (filter (is_due turn) (pairs_from 0 s))) is h)
 
 -- ---- the first places
 pub no_numbers : {X : Type 0} (test : X → Bool) (x : X) (n left : ℕ) → test x ≡ false → numbers_of test n (replicate left x) ≡ []

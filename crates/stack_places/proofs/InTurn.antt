@@ -1,5 +1,5 @@
 -- Moves of a stack in its turn, one after another.
-use Rattle.std.proofs.Common.{◌≡◌, ℕ, zero, suc, ◌+◌, ◌≤◌, Bool, true, false, cond, [], Option, None, refl, sym, ap, ◌∙◌, arith}
+use Rattle.std.proofs.Common.{◌≡◌, ℕ, zero, suc, ◌+◌, ◌≤◌, Bool, true, false, cond, Option, refl, sym, ap, ◌∙◌, arith}
 use Rattle.std.proofs.Math.Dec.{eqb}
 use Rattle.run_laws.specs.Exclusive.{Exclusive, first_is, how_many, is_number, standings as standings_in}
 use Rattle.run_laws.proofs.Counts.{how_many-without_second, how_many-without_number}

@@ -11,5 +11,6 @@ pub mod Round
 pub mod Seats
 pub mod Sleeping
 pub mod Standing
+pub mod Stands
 pub mod Waiters
 pub mod Woken

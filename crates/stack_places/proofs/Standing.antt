@@ -1,5 +1,5 @@
 -- Where a stack stands by its seat, its sleep and whether it is done.
-use Rattle.std.proofs.Common.{◌≡◌, ℕ, ◌+◌, ◌<◌, ◌≤◌, Bool, true, false, cond, ◌||◌, List, [], ◌∷◌, length, Option, Some, None, is_some, refl, sym, ap, ◌∙◌, arith, ◌⊎◌, inl, inr}
+use Rattle.std.proofs.Common.{◌≡◌, ℕ, ◌+◌, ◌<◌, ◌≤◌, Bool, true, false, cond, ◌||◌, ◌&&◌, not, List, [], ◌∷◌, length, Option, Some, None, is_some, is_none, refl, sym, ap, ◌∙◌, arith, ◌⊎◌, inl, inr}
 use Rattle.std.specs.Prelude.{slice_index_or}
 use Rattle.std.specs.List.{list_any}
 use Rattle.std.proofs.Math.Dec.{eqb}
@@ -7,11 +7,13 @@ use Rattle.std.proofs.lemmas.Bool.{eqb-true}
 use Rattle.lock_queue.specs.declared.seat.Seat.{Seat}
 use Rattle.lock_queue.specs.declared.seat.Seat.TheVariants.{Resting, Free, Waits, Holds}
 use Rattle.lock_queue.specs.LockTable.{LockTable, held_by, holds, owner_of, pairs_if, pairs_of, seat_of, waits_for}
+use Rattle.lock_queue.specs.LockTable as seats
 use Rattle.run_laws.specs.Exclusive.{how_many, is_number}
+use Rattle.run_laws.proofs.Counts.{same_or_not}
 use Rattle.script_meaning.specs.Locks.{second_is, waited_for}
 use Rattle.script_meaning.specs.World.{World}
 use Rattle.stack_places.specs.Lists.{is_free, is_true, numbers_of, owners_from, pairs_from}
-use Rattle.stack_places.specs.Places.{IsAway, Runs, lists_of}
+use Rattle.stack_places.specs.Places.{IsAway, Runs, is_zero, lists_of, standings}
 use Rattle.stack_places.proofs.Numbers as numbers
 use Rattle.stack_places.proofs.Seats.{HoldsAlone, owns_none, owns_nothing, owns_some, owns_this}
 use Rattle.stack_places.proofs.Waiters as waiters
@@ -96,6 +98,37 @@ module _ (locks : LockTable) (agrees : Agrees locks) (k : ℕ) where
         let here : 0 + k ≡ k = omega arith in
         let one : how_many (is_number k) (numbers_of is_true 0 done) ≡ 1 = ap (λ n. how_many (is_number n) (numbers_of is_true 0 done)) (sym here) ∙ (numbers.counted is_true false 0 k done refl ∙ ap (λ t. cond t 1 0) e) in
         absurd (omega (arith, away, one))
+
+  -- one that rests, is awake and isn't done stands nowhere
+  away_there : (sleepers : List (Option ℕ)) (done : List Bool) → seat_of locks k ≡ Resting → slice_index_or sleepers k None ≡ None → slice_index_or done k false ≡ false → IsAway (lists_of locks sleepers done) k
+  away_there sleepers done e u d =
+      let here : 0 + k ≡ k = omega arith in
+      let owners = no_owner (ap held_by e) in
+      let waiters : how_many (second_is k) locks.waiters ≡ 0 = waiter_count ∙ ap (λ s. length (pairs_if k (waits_for s))) e in
+      let free : how_many (is_number k) (numbers_of is_free 0 locks.seats) ≡ 0 = free_count ∙ ap (λ s. cond (is_free s) 1 0) e in
+      let asleep : how_many (λ (p : ℕ × ℕ). eqb p.0 k) (pairs_from 0 sleepers) ≡ 0 = ap (λ n. how_many (λ (p : ℕ × ℕ). eqb p.0 n) (pairs_from 0 sleepers)) (sym here) ∙ (numbers.pairs_counted 0 k sleepers ∙ ap (λ o. cond (is_some o) 1 0) u) in
+      let over : how_many (is_number k) (numbers_of is_true 0 done) ≡ 0 = ap (λ n. how_many (is_number n) (numbers_of is_true 0 done)) (sym here) ∙ (numbers.counted is_true false 0 k done refl ∙ ap (λ t. cond t 1 0) d) in
+      omega (arith, owners, waiters, free, asleep, over)
+
+  pub away_told : (sleepers : List (Option ℕ)) (done : List Bool) → seats.rests (seat_of locks k) && is_none (slice_index_or sleepers k None) && not (slice_index_or done k false) ≡ is_zero (standings (lists_of locks sleepers done) k)
+  away_told sleepers done = elim (same_or_not (standings (lists_of locks sleepers done) k) 0) [
+    | inl (e, t) ↦ all_true (seats.rests (seat_of locks k)) (is_none (slice_index_or sleepers k None)) (slice_index_or done k false) (ap seats.rests (rests sleepers done e)) (ap is_none (not_asleep sleepers done e)) (not_done sleepers done e) ∙ sym t
+    | inr (d, t) ↦ some_false (seat_of locks k) (slice_index_or sleepers k None) (slice_index_or done k false) (λ e u o. d (away_there sleepers done e u o)) ∙ sym t
+  ]
+    where
+      all_true : (r u o : Bool) → r ≡ true → u ≡ true → o ≡ false → r && u && not o ≡ true
+      all_true true true false a b c = refl
+      all_true true true true a b c = absurd (cc)
+      all_true true false o a b c = absurd (cc)
+      all_true false u o a b c = absurd (cc)
+
+      some_false : (seat : Seat) (u : Option ℕ) (o : Bool) → (seat ≡ Resting → u ≡ None → o ≡ false → ⊥) → seats.rests seat && is_none u && not o ≡ false
+      some_false Resting None false h = absurd (h refl refl refl)
+      some_false Resting None true h = refl
+      some_false Resting (Some n) o h = refl
+      some_false Free u o h = refl
+      some_false (Waits i) u o h = refl
+      some_false (Holds i) u o h = refl
 
   -- a stack that runs has a seat to leave
   pub has_seat : (sleepers : List (Option ℕ)) (done : List Bool) → Runs (lists_of locks sleepers done) k → (seat_of locks k ≡ Free) ⊎ ((instance : ℕ) × (seat_of locks k ≡ Holds instance))

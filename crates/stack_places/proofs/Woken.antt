@@ -29,7 +29,7 @@ in_two : (turn n : ℕ) (p : PlaceLists) → how_many (first_is n) (without_due 
 in_two turn n p = how_many-split (first_is n) turn p.asleep
 
 -- the first that is due sleeps, and its taking away leaves the rest
-counts : (turn k n : ℕ) (p q : PlaceLists) (t : Taken turn k p q) → how_many (first_is n) p.asleep ≡ cond (eqb k n) 1 0 + how_many (first_is n) q.asleep
+pub counts : (turn k n : ℕ) (p q : PlaceLists) (t : Taken turn k p q) → how_many (first_is n) p.asleep ≡ cond (eqb k n) 1 0 + how_many (first_is n) q.asleep
 counts turn k n p q t =
     let a = in_two turn n p in
     let b = in_two turn n q in
@@ -37,7 +37,7 @@ counts turn k n p q t =
     let r = ap (λ (x : PlaceLists). how_many (first_is n) x.asleep) t.rest in
     omega (arith, a, b, d, r)
 
-others : (turn k : ℕ) (p q : PlaceLists) → Taken turn k p q → (n : ℕ) → how_many (second_is n) q.owners + how_many (second_is n) q.waiters + how_many (is_number n) q.free + how_many (is_number n) q.done ≡ how_many (second_is n) p.owners + how_many (second_is n) p.waiters + how_many (is_number n) p.free + how_many (is_number n) p.done
+pub others : (turn k : ℕ) (p q : PlaceLists) → Taken turn k p q → (n : ℕ) → how_many (second_is n) q.owners + how_many (second_is n) q.waiters + how_many (is_number n) q.free + how_many (is_number n) q.done ≡ how_many (second_is n) p.owners + how_many (second_is n) p.waiters + how_many (is_number n) p.free + how_many (is_number n) p.done
 others turn k p q t n =
     ap (λ (x : PlaceLists). how_many (second_is n) x.owners + how_many (second_is n) x.waiters + how_many (is_number n) x.free + how_many (is_number n) x.done) t.rest
 
@@ -74,7 +74,7 @@ joined turn k n (Some i) q r m =
     let d = ap (λ (v : World). how_many (is_number n) v.done) w in
     omega (arith, f, a, b, c, d)
 
-same_asleep : (turn k : ℕ) (o : Option ℕ) (q r : PlaceLists) → Moved (goes_to_wait k o) q r → r.asleep ≡ q.asleep
+pub same_asleep : (turn k : ℕ) (o : Option ℕ) (q r : PlaceLists) → Moved (goes_to_wait k o) q r → r.asleep ≡ q.asleep
 same_asleep turn k None q r m = ap (λ (v : World). v.asleep) (m some_world)
 same_asleep turn k (Some i) q r m = ap (λ (v : World). v.asleep) (m some_world)
 

@@ -1,5 +1,5 @@
 -- Where stacks are, and what moves them, in the terms of the meaning of scripts.
-use Rattle.std.specs.Prelude.{◌≡◌, ℕ, ◌+◌, ◌<◌, ◌≤◌, true, Bool, List, [], ◌∷◌, length, Option, Some, None}
+use Rattle.std.specs.Prelude.{◌≡◌, ◌≢◌, ◌==◌, ℕ, ◌+◌, ◌<◌, ◌≤◌, true, Bool, List, [], ◌∷◌, length, Option, Some, None}
 use Rattle.std.specs.List.{filter}
 use Rattle.lock_queue.specs.LockTable.{LockTable}
 use Rattle.stack_places.specs.Lists.{is_free, is_true, numbers_of, owners_from, pairs_from}
@@ -78,8 +78,24 @@ pub record Runs (places : PlaceLists) (k : ℕ) : Type 0 where
   pub once : standings places k ≡ 1
   pub now : 1 ≤ how_many (second_is k) places.owners + how_many (is_number k) places.free
 
+abbrev pub is_zero : ℕ → Bool
+is_zero n = n == 0
+
 abbrev pub IsAway : PlaceLists → ℕ → Type 0
 IsAway places k = standings places k ≡ 0
+
+-- each stack stands as often as before, wherever that is
+pub record SameStandings (old new : PlaceTable) : Type 0 where
+  pub stands : (k : ℕ) → standings new.lists k ≡ standings old.lists k
+  pub instances : new.instances ≡ old.instances
+  pub room : new.room ≡ old.room
+
+-- the same but for one that stood nowhere, and stands once
+pub record StandsThen (stack : ℕ) (old new : PlaceTable) : Type 0 where
+  pub here : standings new.lists stack ≡ 1
+  pub others : (k : ℕ) → k ≢ stack → standings new.lists k ≡ standings old.lists k
+  pub instances : new.instances ≡ old.instances
+  pub room : new.room ≡ old.room
 
 -- a stack is ready in each world whose stacks are at these places
 abbrev pub IsReady : PlaceLists → ℕ → Type 0

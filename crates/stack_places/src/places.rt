@@ -1,15 +1,15 @@
 //! The places of stacks, and what moves them.
 
-ghost use Rattle.std.specs.Prelude.{◌≡◌, ◌<◌, ◌≤◌, ℕ, IfOk, IfSome, false, length, replicate};
+ghost use Rattle.std.specs.Prelude.{◌≡◌, ◌↔◌, ◌<◌, ◌≤◌, ℕ, IfOk, IfSome, IsTrue, ◌&&◌, not, false, is_none, length, replicate};
 ghost use Rattle.std.specs.Option.{ForSome};
 ghost use Rattle.std.specs.List.{find, list_any};
 ghost use Rattle.lock_queue.specs.LockTable.{start_after};
 ghost use Rattle.script_meaning.specs.Locks.{ends, goes_to_wait, is_ready, let_go, sleeps, stack_of, takes, waited_for};
 ghost use Rattle.script_meaning.specs.Report.{due_of};
-ghost use Rattle.run_laws.specs.Exclusive.{is_number};
+ghost use Rattle.run_laws.specs.Exclusive.{first_is, how_many, is_number};
 ghost use Rattle.script_meaning.specs.Turns.{all_done, round};
 ghost use Rattle.script_meaning.specs.World.{World};
-ghost use Rattle.stack_places.specs.Places.{IsAway, IsReady, Moves, NobodyStands, Runs, TakesDue, placed, standings};
+ghost use Rattle.stack_places.specs.Places.{IsAway, IsReady, Moves, NobodyStands, Runs, TakesDue, due_in, is_zero, placed, standings};
 
 use latent_natives::Sleepers;
 use lock_queue::Locks;
@@ -22,6 +22,8 @@ use std::marker::Model;
 #[derive(Drop)]
 pub struct Places {
     locks: Locks,
+    // How many instances there are.
+    instances: u16,
     sleepers: Sleepers,
     // Which stacks are done, and how many.
     done: Vec<bool>,
@@ -37,7 +39,7 @@ impl Model for Places {
 
     ghost view = { λ p. table_of p.locks p.sleepers p.done.items };
 
-    ghost invariant = { λ p. (length p.sleepers ≡ length p.locks.seats) × (vec_len p.done ≡ length p.locks.seats) × (length p.locks.seats < 65536) × (p.done_count ≡ length (numbers_of is_true 0 p.done.items)) };
+    ghost invariant = { λ p. (length p.sleepers ≡ length p.locks.seats) × (vec_len p.done ≡ length p.locks.seats) × (length p.locks.seats < 65536) × (p.done_count ≡ length (numbers_of is_true 0 p.done.items)) × (p.instances ≡ p.locks.instances) };
 }
 
 impl Places {
@@ -51,10 +53,52 @@ impl Places {
     {
         Ok(Places {
             locks: Locks::with_room(alloc, instances, stacks)?,
+            instances,
             sleepers: Sleepers::with_room(alloc, stacks)?,
             done: none_done(alloc, stacks)?,
             done_count: 0,
         })
+    }
+
+    /// An instance where it is there.
+    pub fn if_there(&self, instance: Option<u16>) -> Option<u16>
+        ensures { IfSome result (λ i. i < self.now.instances) }
+    {
+        match instance {
+            Some(instance) if instance < self.instances => Some(instance),
+            _ => None,
+        }
+    }
+
+    /// Whether there is room for a stack of this number.
+    pub fn has_place(&self, stack: u16) -> bool
+        ensures { IsTrue result ↔ (stack < self.now.room) }
+    {
+        usize::from(stack) < self.done.len()
+    }
+
+    /// Whether a stack stands nowhere.
+    pub fn is_away(&self, stack: u16) -> bool
+        requires { stack < self.now.room }
+        ensures { result ≡ is_zero (standings self.now.lists stack) }
+    {
+        self.locks.seats_agree();
+        let until = self.sleepers.until(stack);
+        is_nowhere(
+            self.locks.rests(stack),
+            until,
+            self.done[usize::from(stack)],
+        )
+    }
+
+    /// The stack that follows a waiting one in order of joining, or the first of all.
+    pub fn next_waiter(&self, after: Option<u16>) -> Option<u16>
+        requires { ForSome after (λ stack. stack < self.now.room) }
+    {
+        if let Some(stack) = after {
+            self.locks.waits_for(stack)?;
+        }
+        self.locks.next_waiter(after)
     }
 
     /// Lets a stack that stands nowhere wait for an instance, behind all others, or run free where none is given.
@@ -108,7 +152,8 @@ impl Places {
 
     /// Takes away the sleeper of the least number that is due at a turn. It is `None` exactly where none is due.
     pub fn wake(&mut self, turn: u32) -> Option<u16>
-        ensures { TakesDue turn result self.old self.new }
+        ensures taken { TakesDue turn result self.old self.new }
+        ensures first { IfSome result (λ stack. (k : ℕ) → 1 ≤ how_many (first_is k) (due_in turn self.new.lists) → stack < k) }
     {
         self.sleepers.due(turn)
     }
@@ -201,6 +246,12 @@ impl Places {
         self.locks.seats_agree();
         self.locks.ready_next(last)
     }
+}
+
+fn is_nowhere(rests: bool, until: Option<u32>, is_done: bool) -> bool
+    ensures { result ≡ rests && is_none until && not is_done }
+{
+    rests && until.is_none() && !is_done
 }
 
 fn none_done(alloc: Global, stacks: u16) -> Made<Vec<bool>>

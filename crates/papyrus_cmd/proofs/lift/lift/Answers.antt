@@ -67,6 +67,6 @@ returns-in-Ok-write_sources-clause-holds g c =
     let lifts = rw c.in-Ok-found.is at c.lifted-found.ensures in
     let same : length names ≡ length c.args.files.now = length-map c.args.files.now string_bytes in
     let counted : length c.files.result.now.items ≡ length names = omega (arith, same, c.in-Ok.ensures.count, ap length c.files.ensures.files) in
-    let have = have_sources names (g.D.Desk.holds c.args.desk.now) c.files.result.now.items c.in-Ok-found.texts c.files.ensures.sound (rw c.files.ensures.files c.in-Ok.ensures.spelled) counted lifts in
+    let have = have_sources names (g.D.Desk.holds c.args.desk.now) c.files.result.now.items c.in-Ok-found.texts c.files.ensures.valid (rw c.files.ensures.files c.in-Ok.ensures.spelled) counted lifts in
     let writes = rw (c.deref.ensures.value, c.in-Ok.ensures.holds) at c.in-Ok-write_sources.ensures.holds in
     (c.in-Ok-found.texts.items, have, writes)

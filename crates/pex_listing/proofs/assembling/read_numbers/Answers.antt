@@ -14,7 +14,7 @@ loop-place-init c = record {
 
 pub loop-place-preserved : goal.loop-place-preserved
 loop-place-preserved c = record {
-  read = fields_more c.unsigned_16.result _ c.loop-place.invariant.read (record { takes = spent_takes c.spend.ensures c.unsigned_16.ensures; holds = λ good. search rules }) c.in_ok-push.ensures.items;
+  read = fields_more c.unsigned_16.result _ c.loop-place.invariant.read (record { takes = spent_takes c.spend.ensures.spends c.unsigned_16.ensures.taken; holds = λ good. search rules }) c.in_ok-push.ensures.items;
   count = grind (arith, common_steps);
 }
 

@@ -39,7 +39,7 @@ returns c =
       entries = d.takes;
       flags = fs.takes;
       objects = os.takes;
-      end = c.in_ok-end.ensures;
+      end = c.in_ok-end.ensures.text;
     } in
     let spelled = c.in_ok-names.ensures.spelled ∙ ap (λ (s : List (List ℕ)). map (reference s) (range_with_len 0 (length s))) c.deref.ensures.value in
     record {

@@ -33,7 +33,7 @@ returns c =
     let f = c.in_ok-read_function.field-0 in
     let got = c.in_ok-read_function.ensures in
     let size = function_size (plain_function f) in
-    some_accessor (vec_len c.args.names.now.spelled) (spelled_in c.args.names.now) c.args.word.now c.args.is_asked c.args.listing.now c.read_function.new.listing f (length (spell.function (plain_function f)) - 15) asked got.holds c.in_ok-expect.ensures got.lines (omega arith)
+    some_accessor (vec_len c.args.names.now.spelled) (spelled_in c.args.names.now) c.args.word.now c.args.is_asked c.args.listing.now c.read_function.new.listing f (length (spell.function (plain_function f)) - 15) asked got.holds c.in_ok-expect.ensures.text got.lines (omega arith)
 
 pub returns-then-not-is_asked : goal.returns-then-not-is_asked
 returns-then-not-is_asked c = no_accessor (vec_len c.args.names.now.spelled) (spelled_in c.args.names.now) c.args.word.now c.args.is_asked c.args.listing.now (search rules)

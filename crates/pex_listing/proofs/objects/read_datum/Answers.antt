@@ -8,6 +8,6 @@ returns c =
     let value = c.read_value-value.ensures in
     let size : 0 + c.size_of.result ≡ length (spell.datum c.read_value-value.result) = omega (arith, c.size_of.ensures) in
     record {
-      takes = takes_as size (takes_spent value.takes c.spend.ensures);
-      holds = λ good. value.holds (c.spend.ensures.good good);
+      takes = takes_as size (takes_spent value.takes c.spend.ensures.spends);
+      holds = λ good. value.holds (c.spend.ensures.spends.good good);
     }

@@ -21,11 +21,11 @@ unfolding form.function
 returns c =
     let n = vec_len c.args.names.now.spelled in
     let s = spelled_in c.args.names.now in
-    let result = c.reference-result.ensures in
-    let doc = c.reference-doc.ensures in
-    let flags = c.unsigned_32-flags.ensures in
-    let bits = c.unsigned_8-bits.ensures in
-    let end = c.in_ok-next_line.ensures in
+    let result = c.reference-result.ensures.gives in
+    let doc = c.reference-doc.ensures.gives in
+    let flags = c.unsigned_32-flags.ensures.taken in
+    let bits = c.unsigned_8-bits.ensures.taken in
+    let end = c.in_ok-next_line.ensures.ends in
     let good = flags.good (bits.good end.good) in
     let ps = c.in_ok-parameters.ensures in
     let ls = c.in_ok-locals.ensures in

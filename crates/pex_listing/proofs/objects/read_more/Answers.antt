@@ -43,9 +43,9 @@ returns-then-not-may_follow c =
 pub returns-then-not-has_field : goal.returns-then-not-has_field
 returns-then-not-has_field c =
     let may : c.args.may_follow ≡ true = search rules in
-    record { values = some_more c.args.names.now c.args.may_follow c.args.listing.now c.spend.new.self c.loop-place.listing _ may c.spend.ensures c.loop-place.invariant; none = λ is. absurd (false≢true (sym is ∙ may)) }
+    record { values = some_more c.args.names.now c.args.may_follow c.args.listing.now c.spend.new.self c.loop-place.listing _ may c.spend.ensures.spends c.loop-place.invariant; none = λ is. absurd (false≢true (sym is ∙ may)) }
 
 pub returns : goal.returns
 returns c =
     let may : c.args.may_follow ≡ true = search rules in
-    record { values = some_more c.args.names.now c.args.may_follow c.args.listing.now c.spend.new.self c.loop-place.listing _ may c.spend.ensures c.loop-place.invariant; none = λ is. absurd (false≢true (sym is ∙ may)) }
+    record { values = some_more c.args.names.now c.args.may_follow c.args.listing.now c.spend.new.self c.loop-place.listing _ may c.spend.ensures.spends c.loop-place.invariant; none = λ is. absurd (false≢true (sym is ∙ may)) }

@@ -4,10 +4,10 @@ use Rattle.pex_listing.proofs.objects.read_pair.Goals as goal
 
 pub returns : goal.returns
 returns c =
-    let end = c.in_ok-next_line.ensures in
-    let name = c.reference-name.ensures in
-    let kind = c.reference-kind.ensures in
+    let end = c.in_ok-next_line.ensures.ends in
+    let name = c.reference-name.ensures.gives in
+    let kind = c.reference-kind.ensures.gives in
     record {
       holds = record { name = name.holds (kind.takes.good end.good); kind = kind.holds end.good };
-      line = lines_of (omega arith) (ended (begun_more (begun_more (begun_spent c.in_ok-expect.ensures c.spend.ensures) name.takes) kind.takes) end);
+      line = lines_of (omega arith) (ended (begun_more (begun_more (begun_spent c.in_ok-expect.ensures.text c.spend.ensures.spends) name.takes) kind.takes) end);
     }

@@ -14,27 +14,27 @@ kind_is : {kind this : ValueKind} {fields : List ℕ} → kind ≡ this → kind
 kind_is is has = sym (ap kind_field is) ∙ has
 
 pub returns-in-Nothing : goal.returns-in-Nothing
-returns-in-Nothing c = record { takes = takes_cut (kind_is c.in-Nothing.is c.in-Some.ensures) c.field-word.ensures; holds = λ good. tt }
+returns-in-Nothing c = record { takes = takes_cut (kind_is c.in-Nothing.is c.in-Some.ensures.spelled) c.field-word.ensures.cuts; holds = λ good. tt }
 
 pub returns-in-Name : goal.returns-in-Name
-returns-in-Name c = record { takes = takes_more (takes_cut (kind_is c.in-Name.is c.in-Some.ensures) c.field-word.ensures) c.reference.ensures.takes; holds = c.reference.ensures.holds }
+returns-in-Name c = record { takes = takes_more (takes_cut (kind_is c.in-Name.is c.in-Some.ensures.spelled) c.field-word.ensures.cuts) c.reference.ensures.gives.takes; holds = c.reference.ensures.gives.holds }
 
 pub returns-in-Text : goal.returns-in-Text
-returns-in-Text c = record { takes = takes_more (takes_cut (kind_is c.in-Text.is c.in-Some.ensures) c.field-word.ensures) c.reference-in-Text.ensures.takes; holds = c.reference-in-Text.ensures.holds }
+returns-in-Text c = record { takes = takes_more (takes_cut (kind_is c.in-Text.is c.in-Some.ensures.spelled) c.field-word.ensures.cuts) c.reference-in-Text.ensures.gives.takes; holds = c.reference-in-Text.ensures.gives.holds }
 
 pub returns-in-Integer : goal.returns-in-Integer
 returns-in-Integer c =
     let fits : FitsSigned w32 c.signed.result = search rules in
     record {
-      takes = takes_is (ap (λ z. codes " int" ++ field (signed_decimal z)) (sym (to_z-of_z w32 c.signed.result fits))) (takes_more (takes_cut (kind_is c.in-Integer.is c.in-Some.ensures) c.field-word.ensures) c.signed.ensures);
+      takes = takes_is (ap (λ z. codes " int" ++ field (signed_decimal z)) (sym (to_z-of_z w32 c.signed.result fits))) (takes_more (takes_cut (kind_is c.in-Integer.is c.in-Some.ensures.spelled) c.field-word.ensures.cuts) c.signed.ensures.taken);
       holds = λ good. search rules;
     }
 
 pub returns-in-Real : goal.returns-in-Real
-returns-in-Real c = record { takes = takes_more (takes_cut (kind_is c.in-Real.is c.in-Some.ensures) c.field-word.ensures) c.hexadecimal.ensures; holds = λ good. search rules }
+returns-in-Real c = record { takes = takes_more (takes_cut (kind_is c.in-Real.is c.in-Some.ensures.spelled) c.field-word.ensures.cuts) c.hexadecimal.ensures.taken; holds = λ good. search rules }
 
 pub returns-in-Truth : goal.returns-in-Truth
-returns-in-Truth c = record { takes = takes_more (takes_cut (kind_is c.in-Truth.is c.in-Some.ensures) c.field-word.ensures) c.unsigned_8.ensures; holds = λ good. search rules }
+returns-in-Truth c = record { takes = takes_more (takes_cut (kind_is c.in-Truth.is c.in-Some.ensures.spelled) c.field-word.ensures.cuts) c.unsigned_8.ensures.taken; holds = λ good. search rules }
 
 pub returns-in_default : goal.returns-in_default
-returns-in_default c = record { takes = takes_noted (codes "none") c.field-word.ensures c.note.ensures (λ is. absurd (false≢true is)); holds = λ good. tt }
+returns-in_default c = record { takes = takes_noted (codes "none") c.field-word.ensures.cuts c.note.ensures.notes (λ is. absurd (false≢true is)); holds = λ good. tt }

@@ -1,8 +1,10 @@
-use Rattle.std.proofs.Common.{◌≡◌, ℕ, List, ◌∷◌, map, All, refl, sym, subst}
+use Rattle.std.proofs.Common.{◌≡◌, ◌∙◌, ℕ, List, ◌∷◌, map, All, refl, ap, sym, subst}
+use Rattle.pex_set.specs.Names.{with_names}
 use Rattle.pex_values.specs.declared.values.Pex.{Pex}
 use Rattle.pex_verify.specs.declared.sources.FileStrings.{FileStrings}
 use Rattle.pex_verify.specs.declared.sources.SetFile.{SetFile}
 use Rattle.pex_verify.specs.Sources.{AreStrings, AreNamed, HaveParts, IsNamed}
+use Rattle.pex_verify.proofs.NameTables.{always, names_made}
 use Rattle.pex_verify.proofs.Named.{named_given}
 use Rattle.pex_verify.proofs.Parts.{plain_parts, files_parts}
 use Rattle.pex_verify.proofs.Whole.{source_named, stands_first, judged_given}
@@ -49,3 +51,9 @@ returns-clause-named c =
     let parts : All (λ (s : SetFile). HaveParts s.pex.now) sources = subst (λ (l : List SetFile). All (λ (s : SetFile). HaveParts s.pex.now) l) (sym is) (made.parts own_parts (files_parts files c.requires.valid)) in
     let files_are = subst (λ (l : List SetFile). map (λ (s : SetFile). s.pex.now) l ≡ first.pex.now ∷ files) (sym is) made.files in
     named_given c.load_set.result names _ sources first.pex.now files files_are (stands_first _ _ _ _ from.pex c.as_slice-3.ensures.value refl c.requires.file c.requires.members) c.load_set.ensures.empty named own_named parts c.load_set.ensures.loaded c.requires.valid c.load_set.ensures.sound c.load_set.ensures.numbered
+
+pub returns-clause-names : goal.returns-clause-names
+returns-clause-names c = λ empty.
+    let prelude = c.args.prelude.now.file in
+    let own = c.in_ok-prelude_strings.ensures.table ∙ ap (with_names c.args.table.now) c.as_slice.ensures.value in
+    always c.load_set.result (names_made c.args.table.now c.of.new.table c.strings_of_files.new.table prelude c.args.files.now empty c.requires.file own c.in_ok-strings.ensures.table)

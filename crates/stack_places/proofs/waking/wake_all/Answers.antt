@@ -7,13 +7,13 @@ use Rattle.stack_places.proofs.waking.wake_all.Goals as goal
 
 pub go_to_wait-requires-clause-away : goal.go_to_wait-requires-clause-away
 go_to_wait-requires-clause-away g c =
-    let e = c.in-Some.ensures in
+    let e = c.in-Some.ensures.taken in
     let t : Taken c.args.turn c.in-Some.stack (c.loop-stack.places).lists (c.wake.new.self).lists = record { until = e.until; due = e.due; rest = e.rest } in
     away_taken c.args.turn c.in-Some.stack (c.loop-stack.places).lists (c.wake.new.self).lists c.loop-stack.invariant.alone t
 
 pub loop-stack-smaller : goal.loop-stack-smaller
 loop-stack-smaller g c =
-    let e = c.in-Some.ensures in
+    let e = c.in-Some.ensures.taken in
     let t : Taken c.args.turn c.in-Some.stack (c.loop-stack.places).lists (c.wake.new.self).lists = record { until = e.until; due = e.due; rest = e.rest } in
     due_fewer c.args.turn c.in-Some.stack c.instance_of.result (c.loop-stack.places).lists (c.wake.new.self).lists (c.go_to_wait.new.self).lists t c.go_to_wait.ensures.moved
 
@@ -25,7 +25,7 @@ loop-stack-preserved g c =
     let p = (c.loop-stack.places).lists in
     let q = (c.wake.new.self).lists in
     let r = (c.go_to_wait.new.self).lists in
-    let e = c.in-Some.ensures in
+    let e = c.in-Some.ensures.taken in
     let t : Taken turn k p q = record { until = e.until; due = e.due; rest = e.rest } in
     let m = c.go_to_wait.ensures.moved in
     let same = c.go_to_wait.ensures.instances ∙ e.instances in
@@ -40,5 +40,5 @@ loop-stack-preserved g c =
 
 pub returns-clause-woke : goal.returns-clause-woke
 returns-clause-woke g c =
-    let e = c.in_default.ensures in
+    let e = c.in_default.ensures.taken in
     λ w. woken_all c.args.turn (g.T.Stacks.stacks c.args.stacks.now) (c.loop-stack.places).lists (c.wake.new.self).lists e.none (ap (λ (x : PlaceTable). x.lists) e.same) w ∙ c.loop-stack.invariant.woke w

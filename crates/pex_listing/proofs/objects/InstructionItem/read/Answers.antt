@@ -26,22 +26,22 @@ size i n false is none =
 pub returns : goal.returns
 unfolding form.instruction
 returns c =
-    let is = sym c.operand_count.ensures ∙ c.in-Some.is in
+    let is = sym c.operand_count.ensures ∙ c.in-Some-operand_count.is in
     let fixed = c.in_ok-fixed.ensures.values in
     let more = c.in_ok-more.ensures in
-    let end = c.in_ok-next_line.ensures in
-    let i : Instruction = record { opcode = c.in_ok-opcode.opcode; fixed = c.in_ok-fixed.fixed; more = c.in_ok-more.more } in
+    let end = c.in_ok-next_line.ensures.ends in
+    let i : Instruction = record { opcode = c.in-Some.opcode; fixed = c.in_ok-fixed.fixed; more = c.in_ok-more.more } in
     let good = more.values.takes.good end.good in
-    let size_is = size (plain_instruction i) c.in-Some.count c.in-Some.may_follow is more.none in
+    let size_is = size (plain_instruction i) c.in-Some-operand_count.count c.in-Some-operand_count.may_follow is more.none in
     record {
       holds = (
         record {
           opcode = search rules;
-          operands = subst (λ (o : Option (ℕ × Bool)). AgreesWith o (length i.fixed.items) (length i.more.items)) (sym is) (agrees c.in-Some.count (length i.fixed.items) c.in-Some.may_follow i.more.items c.in_ok-fixed.ensures.count more.none);
+          operands = subst (λ (o : Option (ℕ × Bool)). AgreesWith o (length i.fixed.items) (length i.more.items)) (sym is) (agrees c.in-Some-operand_count.count (length i.fixed.items) c.in-Some-operand_count.may_follow i.more.items c.in_ok-fixed.ensures.count more.none);
           fixed = fixed.holds good;
           more = more.values.holds end.good;
         },
         omega (arith, few_values i.more.items, more.values.takes.room end.good, c.read_fixed.new.listing.room.within),
       );
-      lines = lines_of (omega (arith, size_is)) (ended (begun_more (begun_more (begun_spent c.in_ok-opcode.ensures c.spend.ensures) fixed.takes) more.values.takes) end);
+      lines = lines_of (omega (arith, size_is)) (ended (begun_more (begun_more (begun_spent c.in-Some.ensures c.spend.ensures.spends) fixed.takes) more.values.takes) end);
     }

@@ -16,13 +16,13 @@ unfolding form.object_line form.object
 returns c =
     let n = vec_len c.args.names.now.spelled in
     let spelled = spelled_in c.args.names.now in
-    let name = c.reference-name.ensures in
-    let size = c.size_form-size_form.ensures in
-    let parent = c.reference-parent.ensures in
-    let doc = c.reference-doc.ensures in
-    let flags = c.unsigned_32-flags.ensures in
-    let auto = c.reference-auto_state.ensures in
-    let end = c.in_ok-next_line.ensures in
+    let name = c.reference-name.ensures.gives in
+    let size = c.size_form-size_form.ensures.taken in
+    let parent = c.reference-parent.ensures.gives in
+    let doc = c.reference-doc.ensures.gives in
+    let flags = c.unsigned_32-flags.ensures.taken in
+    let auto = c.reference-auto_state.ensures.gives in
+    let end = c.in_ok-next_line.ensures.ends in
     let good = flags.good (auto.takes.good end.good) in
     let vs = c.in_ok-variables.ensures in
     let ps = viewed (IsShapedProperty n) FitsProperty spell.property (form.property spelled) plain_property _ _ c.in_ok-properties.properties.items c.in_ok-properties.ensures in
@@ -43,6 +43,6 @@ returns c =
         record { variables = vs.counted; properties = ps.counted; each_property = ps.fits; states = ss.counted; each_state = ss.fits },
       );
       lines =
-          let begun = begun_more (begun_more (begun_more (begun_more (begun_more (begun_more (begun_spent c.in_ok-expect.ensures c.spend.ensures) name.takes) size) parent.takes) doc.takes) flags) auto.takes in
+          let begun = begun_more (begun_more (begun_more (begun_more (begun_more (begun_more (begun_spent c.in_ok-expect.ensures.text c.spend.ensures.spends) name.takes) size) parent.takes) doc.takes) flags) auto.takes in
           lines_of (omega (arith, object_size (plain_object o), object_data_size (plain_object o))) (lines_more (lines_more (lines_more (ended begun end) vs.takes) ps.takes) ss.takes);
     }

@@ -9,14 +9,14 @@ use Rattle.pex_listing.proofs.objects.PexPropertyItem.read.Goals as goal
 pub returns : goal.returns
 unfolding form.property_line
 returns c =
-    let name = c.reference-name.ensures in
-    let kind = c.reference-kind.ensures in
-    let doc = c.reference-doc.ensures in
-    let flags = c.unsigned_32-flags.ensures in
-    let bits = c.unsigned_8-bits.ensures in
+    let name = c.reference-name.ensures.gives in
+    let kind = c.reference-kind.ensures.gives in
+    let doc = c.reference-doc.ensures.gives in
+    let flags = c.unsigned_32-flags.ensures.taken in
+    let bits = c.unsigned_8-bits.ensures.taken in
     let variable = c.read_property_variable-variable.ensures in
-    let end = c.in_ok-next_line.ensures in
-    let last = c.spend-2.ensures.good end.good in
+    let end = c.in_ok-next_line.ensures.ends in
+    let last = c.spend-2.ensures.spends.good end.good in
     let good = flags.good (bits.good (variable.variable.takes.good last)) in
     let r = c.in_ok-read.ensures in
     let w = c.in_ok-write.ensures in
@@ -39,6 +39,6 @@ returns c =
         record { read = r.fits; write = w.fits },
       );
       lines =
-          let begun = begun_more (begun_more (begun_more (begun_more (begun_more (begun_more (begun_spent c.in_ok-expect.ensures c.spend.ensures) name.takes) kind.takes) doc.takes) flags) bits) variable.variable.takes in
-          lines_of (omega (arith, property_size (plain_property p), c.least_bytes.ensures, c.least_bytes-2.ensures, r.whole, w.whole)) (lines_more (lines_more (ended (begun_spent begun c.spend-2.ensures) end) r.takes) w.takes);
+          let begun = begun_more (begun_more (begun_more (begun_more (begun_more (begun_more (begun_spent c.in_ok-expect.ensures.text c.spend.ensures.spends) name.takes) kind.takes) doc.takes) flags) bits) variable.variable.takes in
+          lines_of (omega (arith, property_size (plain_property p), c.least_bytes.ensures, c.least_bytes-2.ensures, r.whole, w.whole)) (lines_more (lines_more (ended (begun_spent begun c.spend-2.ensures.spends) end) r.takes) w.takes);
     }

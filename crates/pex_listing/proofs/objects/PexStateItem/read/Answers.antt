@@ -16,11 +16,11 @@ unfolding form.state
 returns c =
     let n = vec_len c.args.names.now.spelled in
     let spelled = spelled_in c.args.names.now in
-    let name = c.reference-name.ensures in
-    let end = c.in_ok-next_line.ensures in
+    let name = c.reference-name.ensures.gives in
+    let end = c.in_ok-next_line.ensures.ends in
     let fs = viewed (IsShapedNamed n) (λ f. FitsFunction f.1) spell.named (form.named spelled) plain_named _ _ c.in_ok-functions.functions.items c.in_ok-functions.ensures in
     let s : PexState = record { name = c.reference-name.result; functions = c.in_ok-functions.functions } in
     record {
       holds = (record { name = name.holds end.good; functions = fs.shaped }, record { functions = fs.counted; each = fs.fits });
-      lines = lines_of (omega (arith, state_size (plain_state s))) (lines_more (ended (begun_more (begun_spent c.in_ok-expect.ensures c.spend.ensures) name.takes) end) fs.takes);
+      lines = lines_of (omega (arith, state_size (plain_state s))) (lines_more (ended (begun_more (begun_spent c.in_ok-expect.ensures.text c.spend.ensures.spends) name.takes) end) fs.takes);
     }

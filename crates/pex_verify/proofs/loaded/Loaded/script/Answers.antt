@@ -13,6 +13,6 @@ returns-clause-sound c = λ o.
     let outlines = c.self.inside.outline.scripts.items in
     let within : n < length scripts = subst (λ (v : LoadedSet). n < length v.scripts) (sym c.self.view_is) c.requires in
     let here : found ≡ get_or scripts n found = subst (λ k. found ≡ get_or scripts k found) c.from.ensures c.index.ensures in
-    let coded = c.self.invariant.coded n o found within in
+    let coded = c.self.invariant.whole.coded n o found within in
     let sound : IsCodedScript (bounds_with (length scripts) (vec_len (get_or outlines n o).variables)) found = subst (λ (s : LoadedScript). IsCodedScript (bounds_with (length scripts) (vec_len (get_or outlines n o).variables)) s) (sym here) coded in
     subst (λ (v : LoadedSet). IsCodedScript (bounds_with (length v.scripts) (vec_len (get_or v.outline n o).variables)) found) c.self.view_is sound

@@ -38,7 +38,7 @@ invariant_of-self c =
     let more = one_more i.locks i.sleepers i.done.items agrees c.args.stack within same away in
     let count = c.self.invariant.3 in
     let placed_at = ap (λ n. length (numbers_of is_true 0 (slice_set i.done.items n true))) c.from.ensures in
-    (c.self.invariant.0, c.self.invariant.1, c.self.invariant.2, omega (arith, more, count, placed_at))
+    (c.self.invariant.0, c.self.invariant.1, c.self.invariant.2, omega (arith, more, count, placed_at), c.self.invariant.4)
 
 pub returns : goal.returns
 returns c =

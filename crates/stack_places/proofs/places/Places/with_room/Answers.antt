@@ -14,7 +14,7 @@ invariant_of-result c =
     let done : length (c.in_ok-none_done.field-0).items ≡ stacks = ap length c.in_ok-none_done.ensures ∙ length-replicate stacks false in
     let ok = (c.in_ok-none_done.field-0).ok.0 in
     let few = c.ranges.stacks.fits in
-    (sleepers ∙ sym seats, omega (arith, ok, done, seats), omega (arith, few, seats), sym (ap (λ ds. length (numbers_of is_true 0 ds)) c.in_ok-none_done.ensures ∙ ap length (no_numbers is_true false 0 stacks refl)))
+    (sleepers ∙ sym seats, omega (arith, ok, done, seats), omega (arith, few, seats), sym (ap (λ ds. length (numbers_of is_true 0 ds)) c.in_ok-none_done.ensures ∙ ap length (no_numbers is_true false 0 stacks refl)), sym (ap (λ (l : LockTable). l.instances) c.in_ok-with_room.ensures))
 
 pub returns : goal.returns
 returns c =
