@@ -5,17 +5,19 @@ use Rattle.std.proofs.lemmas.List.{length-map}
 use Rattle.std.specs.declared.alloc.Global.{Global}
 use Rattle.std.specs.declared.vec.Vec.{Vec}
 use Rattle.papy_io.specs.Files.{Files}
+use Rattle.papy_io.specs.declared.fault.IoFault.{IoFault}
+use Rattle.papy_io.specs.declared.fault.IoFault.TheVariants as io
 use Rattle.pex_values.specs.Plain.{PlainPex, plain}
 use Rattle.pex_values.specs.declared.values.Pex.{Pex}
 use Rattle.pex_verify.specs.Files.{IsFile}
 use Rattle.command_files.specs.declared.ending.Ending.{Ending}
 use Rattle.command_files.specs.declared.ending.Ending.TheVariants.{Done, OutOfMemory, Usage, ReadFault, WriteFault, Refused, NotBuilt}
-use Rattle.command_files.specs.Ending.{CountsReads, CountsWrites, IsWordBelow, MissesScript}
+use Rattle.command_files.specs.Ending.{CountsReads, CountsWrites, IsWordBelow, MissesScript, write_ending}
 use Rattle.command_files.specs.Held.{AreHeld}
 use Rattle.command_files.specs.Outputs.{EndsUnprinted}
 use Rattle.run_commands.specs.Program.{AreSpelled, EndsOnSet}
 use Rattle.papyrus_cmd.specs.Answers.{LiftAnswersTo}
-use Rattle.papyrus_cmd.specs.Lift.{HaveSources, LiftLeaves, Lifts}
+use Rattle.papyrus_cmd.specs.Lift.{HaveSources, LiftLeaves, Lifts, MayLift}
 
 -- an ending before any file is written
 abbrev IsEarly : Ending → Type 0
@@ -47,6 +49,11 @@ early_writes NotBuilt before now early same = absurd early
 
 pub early_usage : (ending : Ending) → IsEarly ending → ending ≢ Usage
 early_usage ending early = λ is. subst IsEarly is early
+
+-- a write that failed or found no memory
+pub faulted_leaves : (names : List (List ℕ)) (fault : IoFault) (old new : Option Files) → MayLift names old new → LiftLeaves names (write_ending fault) old new
+faulted_leaves names io.Failed old new may = may
+faulted_leaves names io.OutOfMemory old new may = may
 
 -- ---- files that were not read, or may not run together
 

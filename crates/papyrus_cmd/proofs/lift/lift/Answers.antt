@@ -1,8 +1,8 @@
-use Rattle.std.proofs.Common.{arith, ◌≡◌, ap, length, map}
+use Rattle.std.proofs.Common.{arith, ◌≡◌, ap, inr, length, map}
 use Rattle.std.specs.String.{string_bytes}
 use Rattle.std.proofs.lemmas.List.{length-map}
 use Rattle.pex_values.specs.Plain.{plain}
-use Rattle.papyrus_cmd.proofs.Lifting.{early_leaves, early_usage, early_writes, have_sources, set_early, set_output, unlifted_early, unlifted_misses, unlifted_output, unlifted_reads, unlifted_word}
+use Rattle.papyrus_cmd.proofs.Lifting.{early_leaves, early_usage, early_writes, faulted_leaves, have_sources, set_early, set_output, unlifted_early, unlifted_misses, unlifted_output, unlifted_reads, unlifted_word}
 use Rattle.papyrus_cmd.proofs.lift.lift.Goals as goal
 
 -- ---- files that were not read, or may not run together
@@ -70,3 +70,15 @@ returns-in-Ok-write_sources-clause-holds g c =
     let have = have_sources names (g.D.Desk.holds c.args.desk.now) c.files.result.now.items c.in-Ok-found.texts c.files.ensures.valid (rw c.files.ensures.files c.in-Ok.ensures.spelled) counted lifts in
     let writes = rw (c.deref.ensures.value, c.in-Ok.ensures.holds) at c.in-Ok-write_sources.ensures.holds in
     (c.in-Ok-found.texts.items, have, writes)
+
+-- ---- sources that were not all written
+
+pub returns-in-Err-write_sources-clause-holds : goal.returns-in-Err-write_sources-clause-holds
+returns-in-Err-write_sources-clause-holds g c =
+    let names = map string_bytes c.args.files.now in
+    let lifts = rw c.in-Ok-found.is at c.lifted-found.ensures in
+    let same : length names ≡ length c.args.files.now = length-map c.args.files.now string_bytes in
+    let counted : length c.files.result.now.items ≡ length names = omega (arith, same, c.in-Ok.ensures.count, ap length c.files.ensures.files) in
+    let have = have_sources names (g.D.Desk.holds c.args.desk.now) c.files.result.now.items c.in-Ok-found.texts c.files.ensures.valid (rw c.files.ensures.files c.in-Ok.ensures.spelled) counted lifts in
+    let writes = rw (c.deref.ensures.value, c.in-Ok.ensures.holds) at c.in-Err-write_sources.ensures.holds in
+    rw c.from.ensures (faulted_leaves names c.in-Err-write_sources.fault _ _ (inr (c.in-Ok-found.texts.items, have, writes)))
