@@ -15,10 +15,30 @@ CASES = ROOT / "cases"
 TEXTS = CRATES / "command_files" / "src" / "refusal.rt"
 HEADING = re.compile(r"^### ([A-Z]\d+) (\w+)$|^\| ([A-Z]\d+) (\w+) \|", re.MULTILINE)
 CASES_SHOWN = 3
+# What code calls or gives where it tells a rule without naming it.
+TELLING = {
+    "LineRule::BadBlock": r"\bbad_block\(",
+    "LiftRule::NotLifted": r"\bNOT_LIFTED\b",
+    "HeldRule::BadState": r"Err\(RestoreFault::BadState\)|\bstruct JudgedState\b",
+    "HeldRule::OtherDevices": r"Err\(RestoreFault::OtherDevices\)",
+}
+# Definitions in whose words the code tests a rule, or accepted input keeps it, for rules that no definition names.
+KEPT = {
+    "script_linker/specs/Link.antt": "N1 N2 N3 N5",
+    "papy_base/specs/Circles.antt": "N4",
+    "papy_base/specs/Lineage.antt": "N8",
+    "script_linker/specs/Signature.antt": "N9 N11",
+    "pex_verify/specs/Soundness.antt": "V6 V8",
+    "pex_verify/specs/Accepted.antt": "V7",
+    "pex_verify/specs/Found.antt": "V9 V10",
+    "pex_verify/specs/Sets.antt": "V13",
+    "pex_verify/specs/Properties.antt": "V14",
+    "pex_lift/specs/Lifted.antt": "U1",
+}
 HEAD = """# Index of rules
 
-Each rule leads to [rules.md](rules.md), which says where it is broken, with an example and how to mend it. Beside it stand the code that tells it, files of definitions in the language of contracts that speak of it, tests of the crates, and cases;
-behind a file of rows stands how many of them show the rule. [`checks/make_rule_index.py`](../checks/make_rule_index.py) writes this page: call it again when rules, tests or cases have changed.
+Each rule leads to [rules.md](rules.md), which says where it is broken, with an example and how to mend it. Beside it stand the code that tells it; files of definitions that name it, or, behind "by", in whose words the code tests it or accepted input keeps it;
+and what shows it: tests of the crates, cases, and files of rows. Where no definition stands, rules.md alone says it. [`checks/make_rule_index.py`](../checks/make_rule_index.py) writes this page anew.
 """
 
 
@@ -46,7 +66,8 @@ def linked(path):
 
 def told_in(text):
     """The rules that a source tells, as `Kind::Name`: a match on one is no such place."""
-    return set(re.findall(r"\b(\w+Rule::\w+)\b(?!\s*=>)", text))
+    told = set(re.findall(r"\b(\w+Rule::\w+)\b(?!\s*=>)", text))
+    return told | {rule for rule, way in TELLING.items() if re.search(way, text)}
 
 
 def shown_in(text):
@@ -56,14 +77,19 @@ def shown_in(text):
     return alone | set(re.findall(r"\b[A-Z]\d+ [A-Z]\w+", text))
 
 
+def coded_in(text):
+    """The rules whose codes the comments of a file of definitions name."""
+    return {code for comment in re.findall(r"--.*", text) for code in re.findall(r"\b[A-Z]\d+\b", comment)}
+
+
 def defined_in(text):
-    """The rules that a file of definitions speaks of, but for their numbers and texts, as `Kind::Name`."""
+    """The rules that a file of definitions speaks of, but for their numbers and texts, as `Kind::Name` or by their codes in comments."""
     kinds = re.findall(r"\b(\w+Rule)\.TheVariants", text)
     lines = [line for line in text.splitlines() if "rule_number" not in line and "_rule_text" not in line]
     names = re.findall(r"\.([A-Z]\w+)", "\n".join(lines)) if kinds else []
     imported = [(kind, name) for kind, listed in re.findall(r"\b(\w+Rule)\.TheVariants\.\{([^}]*)\}", text) for name in re.findall(r"\w+", listed)]
     used = {f"{kind}::{name}" for kind, name in imported if len(re.findall(rf"\b{name}\b", text)) > 1}
-    return used | {f"{kind}::{name}" for kind in kinds for name in names}
+    return used | coded_in(text) | {f"{kind}::{name}" for kind in kinds for name in names}
 
 
 class Sources:
@@ -86,8 +112,8 @@ class Sources:
     def telling(self, kind, name):
         return self.having(self.code, f"{kind}::{name}")
 
-    def defining(self, kind, name):
-        return self.having(self.specs, f"{kind}::{name}")
+    def defining(self, kind, code, name):
+        return self.having(self.specs, f"{kind}::{name}", code)
 
     def testing(self, kind, code, name):
         return self.having(self.tests, f"{kind}::{name}", f"{code} {name}")
@@ -104,8 +130,7 @@ class Shown:
         for path in sorted(CASES.glob("*.rows")):
             for line in path.read_bytes().decode("latin-1").splitlines():
                 for code in self.codes(line.rpartition("  =>  ")[2]):
-                    files = self.rows.setdefault(code, {})
-                    files[path.name] = files.get(path.name, 0) + 1
+                    self.rows.setdefault(code, set()).add(path.name)
 
     @staticmethod
     def codes(text):
@@ -116,20 +141,26 @@ class Shown:
         words = [f"[{name}](../cases/{name})" for name in cases[:CASES_SHOWN]]
         if len(cases) > CASES_SHOWN:
             words.append(f"{len(cases) - CASES_SHOWN} more")
-        for file, count in sorted(self.rows.get(rule, {}).items()):
-            words.append(f"[{file}](../cases/{file}): {count}")
+        words += [f"[{file}](../cases/{file})" for file in sorted(self.rows.get(rule, ()))]
         return ", ".join(words)
+
+
+def definitions(code, name, kind, sources):
+    """The cell of a rule's definitions."""
+    named = ", ".join(map(linked, sources.defining(kind, code, name)))
+    kept = [linked(CRATES / path) for path, codes in KEPT.items() if code in codes.split()]
+    return named or "".join(f"by {link}" for link in kept)
 
 
 def row(code, name, kind, sources, shown):
     heading = f"{code.lower()}-{name.lower()}"
     example = "rules.md#c-scenes" if code[0] == "C" else f"rules.md#{heading}"
+    tests = [*map(linked, sources.testing(kind, code, name)), shown.cell(f"{code} {name}")]
     cells = [
         f"[{code} {name}]({example})",
         ", ".join(map(linked, sources.telling(kind, name))),
-        ", ".join(map(linked, sources.defining(kind, name))),
-        ", ".join(map(linked, sources.testing(kind, code, name))),
-        shown.cell(f"{code} {name}"),
+        definitions(code, name, kind, sources),
+        ", ".join(filter(None, tests)),
     ]
     return "| " + " | ".join(cells) + " |"
 
@@ -140,7 +171,7 @@ def page(sources, shown):
     for code, name in rules():
         if code[0] != letter:
             letter = code[0]
-            lines += [f"\n## {letter}: {named[letter]}\n", "| Rule | Told in | Definitions | Tests | Cases |", "|---|---|---|---|---|"]
+            lines += [f"\n## {letter}: {named[letter]}\n", "| Rule | Told in | Definitions | Tests and cases |", "|---|---|---|---|"]
         lines.append(row(code, name, types.get(f"{code} {name}", ""), sources, shown))
     return "\n".join(lines).replace("\n\n\n", "\n\n") + "\n"
 

@@ -125,8 +125,7 @@ class Pages:
         """The rule of a row of a table."""
         code, name = row[0].split()
         told = [prose(sentence(row[1])), *(prose(f"{column}: {cell}") for column, cell in list(zip(columns, row))[2:])]
-        whole = prose(f"A whole example: {SCENES}#{code.lower()}-{name.lower()}")
-        return Rule(code, name, [*told, whole, *self.how_to_find(code)])
+        return Rule(code, name, [*told, *self.how_to_find(code)])
 
     def how_to_find(self, code):
         """The blocks on finding the entry that a rule's line doesn't tell: the row of the rule, and the paragraph behind the table."""
