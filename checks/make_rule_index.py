@@ -14,7 +14,7 @@ CASES = ROOT / "cases"
 # The texts of all rules stand in this file, which tells none.
 TEXTS = CRATES / "command_files" / "src" / "refusal.rt"
 HEADING = re.compile(r"^### ([A-Z]\d+) (\w+)$|^\| ([A-Z]\d+) (\w+) \|", re.MULTILINE)
-CASES_SHOWN = 3
+CASES_SHOWN = 2
 # What code calls or gives where it tells a rule without naming it.
 TELLING = {
     "LineRule::BadBlock": r"\bbad_block\(",
