@@ -6,6 +6,7 @@
 
   links      each link of a page leads to a file or folder that is there, and to a heading that is there; and each file that
              a page names is a link
+  promises   each definition that a row of proofs.md links to stands in that file, which a crate of the row's heading has or imports
   index      rule_index.md is what make_rule_index.py makes, and each rule is told, and shown by a test or a case
   scenes     scene.schema.json agrees with each scene of the cases and the examples, but for those that C2 and C3 refuse
   crates     crates.txt and architecture.md have the same crates under the same headings
@@ -109,6 +110,32 @@ def check_links(tally):
             if "out" not in spelled.split("/") and (there or spelled.endswith(".antt")):
                 line = bare.count("\n", 0, found.start()) + 1
                 tally.note(f"{name}:{line}: names {spelled} without a link")
+
+
+@functools.lru_cache(maxsize=None)
+def words_of_crate(crate):
+    """All that the code and the definitions of a crate say."""
+    files = [path for kind in ("src/**/*.rt", "specs/**/*.antt") for path in (ROOT / "crates" / crate).glob(kind)]
+    return "\n".join(path.read_text() for path in files)
+
+
+def promise_fault(name, crate, file, crates):
+    """Why a definition isn't one that these crates cite from a file of a crate, or nothing."""
+    text = (ROOT / "crates" / crate / "specs" / f"{file}.antt").read_text()
+    if name not in (file, crate) and not re.search(rf"^(?:\w+ )*pub (?:\w+ )?{name}\b", text, re.MULTILINE):
+        return "isn't defined there"
+    module = rf"Rattle\.{crate}\.specs\.{file}\b"
+    return "" if crate in crates or any(re.search(module, words_of_crate(one)) for one in crates) else "isn't what the crate cites"
+
+
+def check_promises(tally):
+    crates = []
+    for number, line in enumerate((DOCS / "proofs.md").read_text().splitlines(), 1):
+        crates = re.findall(r"`(\w+)`", line) if line.startswith("## ") else crates
+        for words, crate, file in re.findall(r"\[([^\[\]]*)\]\(\.\./crates/(\w+)/specs/(\w+)\.antt\)", line if line.startswith("|") else ""):
+            for name in re.findall(r"`(\w+)`", words):
+                fault = promise_fault(name, crate, file, crates)
+                tally.note(fault and f"docs/proofs.md:{number}: {name} of {crate}/specs/{file}.antt {fault}")
 
 
 def check_index(tally):
@@ -229,6 +256,7 @@ def main():
         return 2
     tally = Tally()
     check_links(tally)
+    check_promises(tally)
     check_index(tally)
     check_scenes(tally)
     check_commands(tally, words.program.resolve())
