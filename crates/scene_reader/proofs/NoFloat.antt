@@ -1,14 +1,13 @@
 -- What a scene is read from has no float.
-use Rattle.std.proofs.Common.{ℕ, ◌≡◌, Bool, true, false, List, [], ◌∷◌, ◌||◌, Option, Some, None, option_and_then, bytes_eq, if◌then◌else◌, refl, sym, ap, subst, ◌∙◌}
+use Rattle.std.proofs.Common.{ℕ, ◌≡◌, Bool, true, false, List, [], ◌∷◌, ◌||◌, Option, Some, None, option_and_then, bytes_eq, if◌then◌else◌, refl, ap, subst}
 use Rattle.std.specs.Prelude.{ℤ, pos, neg_ℤ, ◌^◌, ◌-◌, codes}
 use Rattle.std.specs.List.{AllByRecursion}
-use Rattle.std.proofs.lemmas.Bool.{true≢false}
 use Rattle.std.proofs.lemmas.Option.{none-some}
-use Rattle.serde_json.specs.Data.{Num, unsigned, negative, float, Data, null, boolean, number, string, array, object, Items, no_items, item, Members, no_members, member}
+use Rattle.serde_json.specs.Data.{unsigned, negative, float, Data, null, boolean, number, string, array, object, Items, no_items, item, Members, no_members, member}
 use Rattle.serde_json.specs.Find.{as_bool, as_number, as_str, as_u64, get_member}
 use Rattle.serde_json.specs.Written.{has_float, items_have_float, members_have_float}
-use Rattle.scene_reader.specs.Reading.{Reading, Misshapen, Excessive, Fits, both, closed, each_item, each_member, entries, has_only, have_only, limited, list, needed, optional, reading_map, there, there_or, within}
-use Rattle.scene_reader.specs.SceneOf.{binding, binding_of, call, call_of, calling, calls, count, device, instance, instance_name, instance_of, instances, int, keys, latency, latency_from, name_from, of_version, order, order_from, parts, place, plan_of, prompt_from, quantum_from, scene, scene_value, short, sleep, tape, text, trace, tracing, truth_from, turn, version_from, version_in, whole}
+use Rattle.scene_reader.specs.Reading.{Reading, Misshapen, Excessive, Fits, both, closed, each_item, each_member, entries, have_only, limited, list, needed, optional, reading_map, there, there_or}
+use Rattle.scene_reader.specs.SceneOf.{binding, binding_of, call, call_of, calling, calls, count, device, instance, instance_name, instance_of, instances, int, keys, latency, latency_from, of_version, order, parts, place, plan_of, prompt_from, quantum_from, scene, scene_value, short, sleep, tape, text, trace, tracing, truth_from, turn, version_from, version_in, whole}
 use Rattle.core_tree.specs.Scenes.{Listed}
 use Rattle.core_tree.specs.declared.scene_tree.SceneValue.TheVariants as values
 use Rattle.scene_reader.specs.declared.parts.Version.{Version}

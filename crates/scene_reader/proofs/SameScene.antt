@@ -1,11 +1,10 @@
 -- A value with `version` 2 is the scene that the value is.
-use Rattle.std.proofs.Common.{ℕ, ◌≡◌, Bool, true, false, List, [], ◌∷◌, Option, Some, None, option_and_then, bytes_eq, if◌then◌else◌, refl, sym, ap, ◌∙◌}
+use Rattle.std.proofs.Common.{ℕ, ◌≡◌, Bool, true, false, List, [], ◌∷◌, Option, Some, None, option_and_then, bytes_eq, if◌then◌else◌, refl, ap, ◌∙◌}
 use Rattle.std.specs.Prelude.{codes}
-use Rattle.core_tree.specs.declared.scene_tree.Binding.{Binding}
 use Rattle.serde_json.specs.Data.{unsigned, Data, null, boolean, number, string, array, object, Members, no_members, member, put}
 use Rattle.serde_json.specs.Find.{as_object, as_str, get, get_member}
 use Rattle.serde_json.proofs.Views.{get_member-put, get_member-put_other}
-use Rattle.scene_reader.specs.Reading.{Reading, Misshapen, Excessive, Fits, both, closed, each_member, entries, has_only, have_only, list, members_in, needed, optional, reading_map, there, there_or}
+use Rattle.scene_reader.specs.Reading.{Reading, Misshapen, Excessive, Fits, both, each_member, entries, has_only, have_only, list, members_in, needed, reading_map, there, there_or}
 use Rattle.scene_reader.specs.Plan.{ScenePlan}
 use Rattle.scene_reader.specs.SceneOf.{binding, binding_of, calls, calling, device, instances, keys, latency, latency_from, of_version, order, parts, place, plan_of, prompt_from, quantum_from, scene, short, sleep, tape, trace, tracing, turn, version_in}
 use Rattle.scene_reader.specs.SceneText.{with_version_2}

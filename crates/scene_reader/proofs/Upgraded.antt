@@ -1,6 +1,6 @@
 -- What is written of the value of a scene, with version 2.
 use Rattle.std.proofs.Common.{ℕ, ◌≡◌, ◌≤◌, Bool, true, false, List, length, Option, Some, None, option_map, if◌then◌else◌, refl, sym, ap, subst, ◌∙◌}
-use Rattle.std.specs.Prelude.{codes, nat_lt, Result, Ok, Err}
+use Rattle.std.specs.Prelude.{codes, nat_lt, Ok, Err}
 use Rattle.std.specs.Str.{IsUtf8}
 use Rattle.std.proofs.lemmas.Bool.{cond-false, le-ltb}
 use Rattle.core_tree.specs.declared.scene_tree.SceneTree.{SceneTree}
@@ -11,7 +11,7 @@ use Rattle.scene_reader.specs.KeyOrder.{IsOrdered}
 use Rattle.scene_reader.specs.Plan.{ScenePlan}
 use Rattle.scene_reader.specs.Reading.{Reading, Misshapen, Excessive, Fits}
 use Rattle.scene_reader.specs.SceneOf.{scene}
-use Rattle.scene_reader.specs.SceneText.{IsScene, IsUpgraded, json_in, json_rule, judged, scene_of_json, scene_of_text, text_rule, upgraded_text, with_version_2}
+use Rattle.scene_reader.specs.SceneText.{IsScene, IsUpgraded, json_in, json_rule, judged, scene_of_json, scene_of_text, text_rule, with_version_2}
 use Rattle.scene_reader.specs.declared.fault.SceneRule.{SceneRule}
 use Rattle.scene_reader.specs.declared.fault.SceneRule.TheVariants.{Limit}
 use Rattle.scene_reader.proofs.KeyOrder.{ordered-json_in, ordered_put}
