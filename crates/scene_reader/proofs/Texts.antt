@@ -8,14 +8,13 @@ use Rattle.std.proofs.lemmas.Option.{none-some}
 use Rattle.std.proofs.lemmas.Str.{IsUtf8-from_is_utf8, is_utf8-from_IsUtf8}
 use Rattle.serde_json.specs.Data.{Data, null, boolean, number, string, array, object, Members, no_members, member, put, depth, members_depth, unsigned}
 use Rattle.serde_json.specs.Read.{max_depth, read}
-use Rattle.serde_json.specs.Written.{IsInOrder, compact_text, has_float}
 use Rattle.serde_json.proofs.Nesting.{depth-read}
 use Rattle.scene_reader.specs.declared.fault.ReadFault.{ReadFault}
 use Rattle.scene_reader.specs.declared.fault.ReadFault.TheVariants as reads
 use Rattle.scene_reader.specs.declared.fault.SceneRule.{SceneRule}
 use Rattle.scene_reader.specs.declared.fault.SceneRule.TheVariants.{NotJson, Limit}
 use Rattle.scene_reader.specs.declared.fault.SceneFault.TheVariants as faults
-use Rattle.scene_reader.specs.SceneText.{IsFaultByRule, IsTextFault, IsUpgraded, json_in, json_rule, text_fault, text_rule, with_version_2}
+use Rattle.scene_reader.specs.SceneText.{IsFaultByRule, IsTextFault, json_in, json_rule, text_fault, text_rule, with_version_2}
 
 pub json_in-read : (bytes : List ℕ) (value : Data) → IsUtf8 bytes → read bytes ≡ Some value → json_in bytes ≡ Some value
 json_in-read bytes value text is = cond-true (is_utf8 bytes) (read bytes) None (is_utf8-from_IsUtf8 bytes text) ∙ is
@@ -76,18 +75,3 @@ memory_always (Some rule) = tt
 pub refused_text : (bytes : List ℕ) (e : ReadFault) → nat_lt 16777216 (length bytes) ≡ false → (e ≡ reads.Invalid → json_in bytes ≡ None) → IsTextFault bytes (text_fault e)
 refused_text bytes reads.Invalid small h = subst (λ o. IsFaultByRule o (faults.Broken NotJson)) (sym (text_rule-small bytes None small (h refl))) refl
 refused_text bytes reads.OutOfMemory small h = memory_always (text_rule bytes)
-
--- ---- upgraded texts
-
--- what is written of the value of a text, with version 2
-pub is_upgraded : (bytes text : List ℕ) (value new : Data) → json_in bytes ≡ Some value → new ≡ with_version_2 value → IsUtf8 text → (depth new ≤ max_depth → read text ≡ Some new) → IsInOrder text new → (has_float new ≡ false → text ≡ compact_text new)
-    → IsUpgraded bytes text
-is_upgraded bytes text value new json is utf8 reads order compact =
-    let deep : depth new ≤ max_depth = subst (λ d. depth d ≤ max_depth) (sym is) (depth-json_in bytes value json) in
-    record {
-      value = value;
-      json = json;
-      reads = subst (λ d. json_in text ≡ Some d) is (json_in-read text new utf8 (reads deep));
-      in_order = subst (IsInOrder text) is order;
-      compact = subst (λ d. has_float d ≡ false → text ≡ compact_text d) is compact;
-    }

@@ -1,5 +1,6 @@
 pub mod Default
 pub mod Document
+pub mod KeyOrder
 pub mod Limits
 pub mod Plan
 pub mod Reading

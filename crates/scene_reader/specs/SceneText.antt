@@ -1,10 +1,11 @@
 -- The JSON value that a scene's text is, the rule that a text breaks before its form is judged, and the text of an upgraded scene.
-use Rattle.std.specs.Prelude.{◌≡◌, ℕ, false, List, length, codes, nat_lt, if◌then◌else◌, Option, Some, None, Result, Ok, Err}
+use Rattle.std.specs.Prelude.{◌≡◌, ◌≤◌, ℕ, List, length, codes, nat_lt, if◌then◌else◌, Option, Some, None, option_map, Result, Ok, Err}
 use Rattle.core_tree.specs.declared.scene_tree.SceneTree.{SceneTree}
 use Rattle.std.specs.Str.{is_utf8}
 use Rattle.serde_json.specs.Data.{Data, null, boolean, number, string, array, object, put, unsigned}
 use Rattle.serde_json.specs.Read.{read as read_text}
-use Rattle.serde_json.specs.Written.{IsInOrder, compact_text, has_float}
+use Rattle.serde_json.specs.Written.{compact_text}
+use Rattle.scene_reader.specs.KeyOrder.{IsOrdered}
 use Rattle.scene_reader.specs.Plan.{ScenePlan, scene_plan}
 use Rattle.scene_reader.specs.Reading.{Reading, Misshapen, Excessive, Fits}
 use Rattle.scene_reader.specs.SceneOf.{scene}
@@ -113,11 +114,16 @@ with_version_2 (string s) = string s
 with_version_2 (array ds) = array ds
 with_version_2 (object ms) = object (put (codes "version") (number (unsigned 2)) ms)
 
--- the text reads as the same value with `version` 2, and has the keys of each object in the order of their bytes; where that has
--- no float, it is its compact text
+-- the compact text of the JSON value that the bytes are, with `version` 2
+abbrev pub upgraded_text : List ℕ → Option (List ℕ)
+upgraded_text bytes = option_map (λ value. compact_text (with_version_2 value)) (json_in bytes)
+
+-- the text is that of the value with `version` 2, reads as it, and has the keys of each object in the order of their bytes; where it has
+-- at most 16 MiB, it has the same scene
 pub record IsUpgraded (bytes text : List ℕ) : Type 0 where
   pub value : Data
   pub json : json_in bytes ≡ Some value
+  pub exact : upgraded_text bytes ≡ Some text
   pub reads : json_in text ≡ Some (with_version_2 value)
-  pub in_order : IsInOrder text (with_version_2 value)
-  pub compact : has_float (with_version_2 value) ≡ false → text ≡ compact_text (with_version_2 value)
+  pub in_order : IsOrdered (with_version_2 value)
+  pub scene : length text ≤ 16777216 → scene_of_text text ≡ scene_of_text bytes
