@@ -8,3 +8,4 @@ pub mod Entries
 pub mod Members
 pub mod Scripts
 pub mod Sets
+pub mod Outlines

@@ -157,7 +157,7 @@ module _ (from : Origin) (home : Home) (object : string home home.object.name �
   accessor_read name kind reference (Some f) (Some tree) before entries after named all apart fits spells =
       code_at name name tree (own_function home kind [] name f) (own_function home kind [] (string home reference) f) refl (ap (λ (n : List ℕ). own_function home kind [] n f) named) (own_read [] name kind f tree before entries after all apart fits spells)
 
-  variable_by : (reference variable : ℕ) (o : Option (List ℕ)) → HomeFits (home_of from) → slice_get (home_of from).variables variable ≡ o → ReadsName home.file.strings reference o → variable_meant home reference ≡ variable
+  pub variable_by : (reference variable : ℕ) (o : Option (List ℕ)) → HomeFits (home_of from) → slice_get (home_of from).variables variable ≡ o → ReadsName home.file.strings reference o → variable_meant home reference ≡ variable
   variable_by reference variable None fits e reads = absurd reads
   variable_by reference variable (Some name) fits e reads =
       ap (λ (n : List ℕ). unwrap_or (first_named n (variable_names home)) 0) (get_or_from_slice_get home.file.strings reference name [] reads.there)

@@ -20,7 +20,7 @@ use Rattle.emit_laws.specs.Members.{HasMembers, IsCodeOf, ScriptFits, ScriptMean
 use Rattle.emit_laws.specs.Readable.{IsHome}
 use Rattle.emit_laws.proofs.Members.{no_state, no_states, none_before, properties_read, states_read}
 
-variables_are : (table : Table) (variables : List PexVariable) (more : List CoreVariable) → Each (SpellsVariable table) variables more → map (λ (v : PexVariable). string_at table.strings v.name) variables ≡ map (λ (v : CoreVariable). v.name) more
+pub variables_are : (table : Table) (variables : List PexVariable) (more : List CoreVariable) → Each (SpellsVariable table) variables more → map (λ (v : PexVariable). string_at table.strings v.name) variables ≡ map (λ (v : CoreVariable). v.name) more
 variables_are table [] [] spells = refl
 variables_are table [] (tree ∷ more) spells = absurd spells
 variables_are table (v ∷ variables) [] spells = absurd spells

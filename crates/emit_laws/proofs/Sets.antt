@@ -5,14 +5,16 @@ use Rattle.std.proofs.lemmas.List.{map-append}
 use Rattle.std.proofs.lemmas.Option.{get_or_from_slice_get}
 use Rattle.core_tree.specs.declared.script.CoreScript.{CoreScript}
 use Rattle.core_tree.specs.declared.script.CoreSet.{CoreSet}
+use Rattle.core_tree.specs.Outlines.{script_outline}
 use Rattle.core_tree.specs.Set as trees
 use Rattle.pex_values.specs.Plain.{PlainObject, PlainPex}
-use Rattle.pex_meaning.specs.Meant.{homes_in, script_meant, scripts_meant}
+use Rattle.pex_meaning.specs.Meant.{homes_in, outline_meant, script_meant, script_outlined, scripts_meant}
 use Rattle.pex_meaning.specs.Names.{object_names, script_names, string_at}
 use Rattle.pex_meaning.specs.Prelude.{prelude}
 use Rattle.code_emit.specs.Spelled.{Each}
 use Rattle.emit_laws.specs.Members.{ScriptMeans}
-use Rattle.emit_laws.specs.Sets.{FileFits, FilesSpell, ScriptsMean, origin}
+use Rattle.emit_laws.specs.Sets.{FileFits, FilesSpell, OutlinesFit, ScriptsMean, origin}
+use Rattle.emit_laws.proofs.Outlines.{outline_read}
 use Rattle.emit_laws.proofs.Scripts.{script_read}
 
 -- ---- names
@@ -48,3 +50,19 @@ files_read set names e (file ∷ files) (script ∷ scripts) spells fits =
 pub set_read : (set : CoreSet) (first more : List CoreScript) (files : List PlainPex) → set.scripts.items ≡ first ++ more → map (λ (script : CoreScript). script.name) first ≡ object_names prelude → FilesSpell set files more → Each (FileFits set) files more → ScriptsMean set more (drop (length prelude.objects) (scripts_meant files))
 set_read set first more files all named spells fits =
     files_read set (script_names files) (names_are set first more files all named spells) files more spells fits
+
+-- ---- outlines
+outlines_in : (set : CoreSet) (names : List (List ℕ)) → names ≡ map (λ (script : CoreScript). script.name) set.scripts.items → (files : List PlainPex) (scripts : List CoreScript) → FilesSpell set files scripts → Each (FileFits set) files scripts → OutlinesFit set scripts → map script_outlined (flat_map (homes_in names) files) ≡ map script_outline scripts
+outlines_in set names e [] [] spells fits outlines = refl
+outlines_in set names e [] (script ∷ scripts) spells fits outlines = absurd spells
+outlines_in set names e (file ∷ files) [] spells fits outlines = absurd spells
+outlines_in set names e (file ∷ files) (script ∷ scripts) spells fits outlines =
+    let object = spells.0.object in
+    let here = ap (λ (l : List (List ℕ)). script_outlined (record { scripts = l; file = file; object = object })) e ∙ outline_read (origin set script) file spells.0 (fits.0 object spells.0.objects) outlines.0 in
+    let others = outlines_in set names e files scripts spells.1 fits.1 outlines.1 in
+    ap (λ (l : List PlainObject). map script_outlined (map (λ (o : PlainObject). record { scripts = names; file = file; object = o }) l ++ flat_map (homes_in names) files)) spells.0.objects
+    ∙ (λ j. here j ∷ others j)
+
+pub outlines_read : (set : CoreSet) (first more : List CoreScript) (files : List PlainPex) → set.scripts.items ≡ first ++ more → map (λ (script : CoreScript). script.name) first ≡ object_names prelude → FilesSpell set files more → Each (FileFits set) files more → OutlinesFit set more → drop (length prelude.objects) (outline_meant files) ≡ map script_outline more
+outlines_read set first more files all named spells fits outlines =
+    outlines_in set (script_names files) (names_are set first more files all named spells) files more spells fits outlines

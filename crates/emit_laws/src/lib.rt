@@ -5,6 +5,7 @@ ghost use Rattle.std.specs.Prelude.{◌≡◌, ℕ, Bool, List, ◌++◌, drop, 
 ghost use Rattle.core_tree.specs.declared.core_type.CoreType.{CoreType};
 ghost use Rattle.core_tree.specs.declared.script.CoreScript.{CoreScript};
 ghost use Rattle.core_tree.specs.declared.script.CoreSet.{CoreSet};
+ghost use Rattle.core_tree.specs.Outlines.{script_outline};
 ghost use Rattle.core_tree.specs.Set as trees;
 ghost use Rattle.pex_values.specs.declared.values.Datum.{Datum};
 ghost use Rattle.pex_values.specs.Plain.{PlainFunction, PlainInstruction, PlainPex};
@@ -12,7 +13,7 @@ ghost use Rattle.run_laws.specs.Fits.{typed};
 ghost use Rattle.pex_meaning.specs.Functions as meaning;
 ghost use Rattle.pex_meaning.specs.Functions.{function_meant};
 ghost use Rattle.pex_meaning.specs.Instructions.{instruction_meant, operand_meant};
-ghost use Rattle.pex_meaning.specs.Meant.{script_meant, scripts_meant};
+ghost use Rattle.pex_meaning.specs.Meant.{outline_meant, script_meant, script_outlined, scripts_meant};
 ghost use Rattle.pex_meaning.specs.Names.{object_names, type_named};
 ghost use Rattle.pex_meaning.specs.Prelude.{prelude};
 ghost use Rattle.code_lower.specs.declared.place.Coded.{Coded};
@@ -23,8 +24,9 @@ ghost use Rattle.code_lower.specs.Whole.{function_with};
 ghost use Rattle.code_emit.specs.Spelled.{Each, Scope, SpellsCode, SpellsInstruction, SpellsPlace, SpellsScript};
 ghost use Rattle.code_emit.specs.Strings.{Origin, Table, home_of, type_name};
 ghost use Rattle.emit_laws.specs.Members.{ScriptFits, ScriptMeans, table_of};
+ghost use Rattle.emit_laws.specs.Outlines.{OutlineFits};
 ghost use Rattle.emit_laws.specs.Readable.{AreDistinct, FunctionFits, InstructionFits, IsHome, KindFits, PlaceFits, ScopeFits, scope_read};
-ghost use Rattle.emit_laws.specs.Sets.{FileFits, FilesSpell, ScriptsMean};
+ghost use Rattle.emit_laws.specs.Sets.{FileFits, FilesSpell, OutlinesFit, ScriptsMean};
 
 /// An operand that spells a place is read as the operand that the place stands for: names of slots, of variables, `self` and `::State` are all told apart.
 pub fn operands_are_read()
@@ -52,7 +54,17 @@ pub fn scripts_are_read()
     ensures { (from : Origin) (file : PlainPex) (spells : SpellsScript from file) → ScriptFits from (table_of from file) spells.object (trees.script_of from.script) → ScriptMeans from (trees.script_of from.script) (script_meant (record { scripts = (home_of from).scripts; file = file; object = spells.object })) }
 {}
 
+/// Such a file has the outline of the script.
+pub fn outlines_are_read()
+    ensures { (from : Origin) (file : PlainPex) (spells : SpellsScript from file) → ScriptFits from (table_of from file) spells.object (trees.script_of from.script) → OutlineFits (home_of from).scripts (trees.script_of from.script) → script_outlined (record { scripts = (home_of from).scripts; file = file; object = spells.object }) ≡ script_outline from.script }
+{}
+
 /// The files that spell the scripts of a set behind those of the prelude mean these scripts in their order.
 pub fn sets_are_read()
     ensures { (set : CoreSet) (first more : List CoreScript) (files : List PlainPex) → set.scripts.items ≡ first ++ more → map (λ (script : CoreScript). script.name) first ≡ object_names prelude → FilesSpell set files more → Each (FileFits set) files more → ScriptsMean set more (drop (length prelude.objects) (scripts_meant files)) }
+{}
+
+/// They have the outlines of these scripts.
+pub fn set_outlines_are_read()
+    ensures { (set : CoreSet) (first more : List CoreScript) (files : List PlainPex) → set.scripts.items ≡ first ++ more → map (λ (script : CoreScript). script.name) first ≡ object_names prelude → FilesSpell set files more → Each (FileFits set) files more → OutlinesFit set more → drop (length prelude.objects) (outline_meant files) ≡ map script_outline more }
 {}
