@@ -1,0 +1,11 @@
+pub mod Names
+pub mod Slots
+pub mod Operands
+pub mod Types
+pub mod Instructions
+pub mod Functions
+pub mod Entries
+pub mod Members
+pub mod Scripts
+pub mod Sets
+pub mod Outlines

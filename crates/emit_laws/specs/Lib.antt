@@ -1,0 +1,4 @@
+pub mod Readable
+pub mod Members
+pub mod Sets
+pub mod Outlines
