@@ -130,9 +130,13 @@ line_same strings awaited v w f g word lines rest same =
     ∙ ap (λ x. follow (place_of strings awaited w) awaited x v.rest) same
     ∙ ap (follow (place_of strings awaited w) awaited (outcome w.room (judged w.broken (g (fields_of w.fields))))) rest)
 
+-- forms that find the same in what is left of the line
+pub form_same : (strings : List (List ℕ)) (awaited : List Awaited) (v : OpenLine) (f g : Form) → f (fields_of v.fields) ≡ g (fields_of v.fields) → line_left strings awaited f v ≡ line_left strings awaited g v
+form_same strings awaited v f g same = line_same strings awaited v v f g refl refl refl (ap (λ x. outcome v.room (judged v.broken x)) same)
+
 -- ---- one field
 
-abbrev cut_behind : ℕ → Option (List ℕ) → List (List ℕ)
+abbrev pub cut_behind : ℕ → Option (List ℕ) → List (List ℕ)
 cut_behind byte None = []
 cut_behind byte (Some t) = between byte t
 
@@ -146,7 +150,7 @@ pub between_cut : (byte : ℕ) (t : List ℕ) → between byte t ≡ before_byte
 between_cut byte [] = refl
 between_cut byte (b ∷ t) = between_step byte b t (between_cut byte t)
 
-fields_cut : (t : List ℕ) → between 32 t ≡ before_byte 32 t ∷ fields_of (behind_byte 32 t)
+pub fields_cut : (t : List ℕ) → between 32 t ≡ before_byte 32 t ∷ fields_of (behind_byte 32 t)
 fields_cut t = between_cut 32 t ∙ ap (λ fs. before_byte 32 t ∷ fs) (same (behind_byte 32 t))
   where
     same : (o : Option (List ℕ)) → cut_behind 32 o ≡ fields_of o
@@ -168,7 +172,7 @@ module _ (strings : List (List ℕ)) (awaited : List Awaited) where
       ∙ ap (λ x. outcome v.room (judged v.broken x)) (step (fields_of (behind_byte 32 t)))
       ∙ ap (outcome v.room) (judged_judged v.broken (test (before_byte 32 t)) (form (before_byte 32 t) (fields_of (behind_byte 32 t))))
 
-  by_fields : (test : List ℕ → Option ListingRule) (form : List ℕ → Form) (read : Form) (v : OpenLine) (o : Option (List ℕ)) → v.fields ≡ o
+  pub by_fields : (test : List ℕ → Option ListingRule) (form : List ℕ → Form) (read : Form) (v : OpenLine) (o : Option (List ℕ)) → v.fields ≡ o
       → ((f : List ℕ) (fs : List (List ℕ)) → read (f ∷ fs) ≡ judged (test f) (form f fs)) → read [] ≡ bad → test [] ≡ Some BadLine
       → line_left strings awaited read v ≡ line_left strings awaited (form (field_in o)) (noted (test (field_in o)) (behind_by v o))
   by_fields test form read v None is step empty worst =
@@ -251,7 +255,7 @@ a_line strings awaited v text word fields behind =
     ∙ ap (break_from p) (sym whole)
 
 -- the line is refused
-refused_left : (strings : List (List ℕ)) (awaited : List Awaited) (v : OpenLine) (w : List ℕ) (form : Form) (rule : ListingRule) → v.word ≡ Some w
+pub refused_left : (strings : List (List ℕ)) (awaited : List Awaited) (v : OpenLine) (w : List ℕ) (form : Form) (rule : ListingRule) → v.word ≡ Some w
     → outcome v.room (judged v.broken (form (fields_of v.fields))) ≡ Refused rule → line_left strings awaited form v ≡ Some (number_of v, rule)
 unfolding line_left
 refused_left strings awaited v w form rule word is =
@@ -392,6 +396,9 @@ module _ (least most : ℕ) (v mid new : OpenLine) (f : List ℕ) (field : f ≡
   pub counted_none : (n : ℕ) → new ≡ noted (Some BadLine) mid → Some BadLine ≡ number_rule least most f → line_left strings awaited (a_number least most form) v ≡ line_left strings awaited (form n) new
   counted_none n is same = counted_as (Some BadLine) is same ∙ bad_left strings awaited (form (number_in f)) (form n) new (ap (λ x. x.broken) is ∙ worse_bad mid.broken)
 
+pub noted_none : (w : OpenLine) → noted None w ≡ w
+noted_none w = ap (λ r. record { word = w.word; fields = w.fields; broken = r; room = w.room; lines = w.lines; rest = w.rest }) (worse_none w.broken)
+
 -- a field that breaks no rule
 pub field_kept : (test : List ℕ → Option ListingRule) (worst : test [] ≡ Some BadLine) (v new : OpenLine) (f : List ℕ) → f ≡ field_in v.fields → new ≡ behind_field v → (strings : List (List ℕ)) (awaited : List Awaited)
     → test f ≡ None → (form : Form) → line_left strings awaited (a_field test form) v ≡ line_left strings awaited form new
@@ -399,9 +406,6 @@ field_kept test worst v new f field cut strings awaited none form =
     field_left strings awaited test form v worst
     ∙ ap (λ r. line_left strings awaited form (noted r (behind_field v))) (ap test (sym field) ∙ none)
     ∙ ap (line_left strings awaited form) (noted_none (behind_field v) ∙ sym cut)
-  where
-    noted_none : (w : OpenLine) → noted None w ≡ w
-    noted_none w = ap (λ r. record { word = w.word; fields = w.fields; broken = r; room = w.room; lines = w.lines; rest = w.rest }) (worse_none w.broken)
 
 pub reference_noted : (flag : Bool) {T : Type 0} (x : T) → cond flag None (Some NotCanonical) ≡ reference_rule_of (Ok (x, flag))
 reference_noted true x = refl

@@ -15,3 +15,6 @@ pub mod Leaving
 pub mod FieldRules
 pub mod StringRules
 pub mod Opening
+pub mod Following
+pub mod OpcodeNames
+pub mod BreakLines

@@ -9,12 +9,13 @@ use Rattle.pex_listing.specs.Opened.{fields_left, behind, text_left, Cuts, Notes
 -- ---- fields
 
 pub takes_nothing : (l : Listing) → Takes [] 0 l l
-takes_nothing l = record { good = λ good. good; taken = λ good. refl; room = λ good. omega arith; rest = refl }
+takes_nothing l = record { good = λ good. good; taken = λ good. refl; shorter = omega arith; room = λ good. omega arith; rest = refl }
 
 pub takes_more : {first second : List ℕ} {m n : ℕ} {old between new : Listing} → Takes first m old between → Takes second n between new → Takes (first ++ second) (m + n) old new
 takes_more {first} {second} {m} {n} {old} {between} {new} a b = record {
   good = λ good. a.good (b.good good);
   taken = λ good. a.taken (b.good good) ∙ (ap (λ t. first ++ t) (b.taken good) ∙ sym (append_assoc first second (fields_left new)));
+  shorter = omega (arith, a.shorter, b.shorter);
   room = λ good. omega (arith, a.room (b.good good), b.room good);
   rest = b.rest ∙ a.rest;
 }
@@ -24,6 +25,7 @@ pub takes_cut : {text fields : List ℕ} {old new : Listing} → fields ≡ fiel
 takes_cut {text} {fields} {old} {new} is cut = record {
   good = cut.good;
   taken = λ good. cut.taken good ∙ ap (λ t. t ++ fields_left new) (sym is);
+  shorter = cut.shorter;
   room = λ good. omega (arith, cut.room);
   rest = cut.rest;
 }
@@ -33,6 +35,7 @@ pub takes_noted : {text : List ℕ} {holds : Bool} {old between new : Listing} (
 takes_noted {text} {holds} {old} {between} {new} spelled cut note same = record {
   good = λ good. cut.good (note.good good);
   taken = λ good. cut.taken (note.good good) ∙ (ap (λ t. field t ++ fields_left between) (same (note.this good)) ∙ ap (λ t. field spelled ++ t) (sym note.fields));
+  shorter = omega (arith, cut.shorter, ap length note.fields);
   room = λ good. omega (arith, cut.room, note.room);
   rest = note.rest ∙ cut.rest;
 }
@@ -42,6 +45,7 @@ pub takes_spent : {text : List ℕ} {m n : ℕ} {old between new : Listing} → 
 takes_spent {text} {m} {n} {old} {between} {new} a spend = record {
   good = λ good. a.good (spend.good good);
   taken = λ good. a.taken (spend.good good) ∙ ap (λ t. text ++ t) (sym spend.fields);
+  shorter = omega (arith, a.shorter, ap length spend.fields);
   room = λ good. omega (arith, a.room (spend.good good), spend.room good);
   rest = spend.rest ∙ a.rest;
 }
@@ -51,6 +55,7 @@ pub spent_takes : {text : List ℕ} {m n : ℕ} {old between new : Listing} → 
 spent_takes {text} {m} {n} {old} {between} {new} spend a = record {
   good = λ good. spend.good (a.good good);
   taken = λ good. sym spend.fields ∙ a.taken good;
+  shorter = omega (arith, a.shorter, ap length spend.fields);
   room = λ good. omega (arith, a.room good, spend.room (a.good good));
   rest = a.rest ∙ spend.rest;
 }

@@ -246,14 +246,22 @@ module _ (strings : List (List ℕ)) where
   abbrev pub all_values : Form
   all_values fields = more_values (length fields) fields
 
+  -- values that may follow those of which the number is known
+  abbrev pub values_behind : Bool → Form
+  values_behind true = paid 5 all_values
+  values_behind false = done [] []
+
   abbrev pub operands : Option (ℕ × Bool) → Form
   operands None fields = bad
-  operands (Some (n, true)) fields = paid 1 (values n (paid 5 all_values)) fields
-  operands (Some (n, false)) fields = paid 1 (values n (done [] [])) fields
+  operands (Some (n, may_follow)) fields = paid 1 (values n (values_behind may_follow)) fields
 
   abbrev pub opcode_line : Option ℕ → Form
   opcode_line None fields = bad
   opcode_line (Some code) fields = operands (operands_of code) fields
+
+  -- a parameter or a local
+  abbrev pub pair_line : Form
+  pair_line = paid 4 (a_name (a_name (done [] [])))
 
   -- the fields of a function behind its name
   abbrev pub function_line : Form
@@ -271,7 +279,7 @@ module _ (strings : List (List ℕ)) where
   unfoldable pub line_of : List ℕ → List ℕ → Form
   line_of word text fields =
       if list_any (bytes_eq word) opcode_names then opcode_line (position (bytes_eq word) opcode_names) fields else
-      (if bytes_eq word (codes "local") || bytes_eq word (codes "param") then paid 4 (a_name (a_name (done [] []))) fields else
+      (if bytes_eq word (codes "local") || bytes_eq word (codes "param") then pair_line fields else
       (if bytes_eq word (codes "read") || bytes_eq word (codes "write") then function_line fields else
       (if bytes_eq word (codes "function") then paid 17 (a_name function_line) fields else
       (if bytes_eq word (codes "state") then paid 4 (a_name (done (any_number_of (codes "function") ∷ []) [])) fields else
@@ -386,11 +394,15 @@ break_from p (text ∷ next ∷ more) =
     first_of p.number (read_line p (before_byte 32 text) (behind_byte 32 text))
     (break_from (behind_line p (left_after p.awaited (before_byte 32 text)) (read_line p (before_byte 32 text) (behind_byte 32 text))) (next ∷ more))
 
+-- whether there is debug information
+abbrev pub debug_line : Awaited
+debug_line = One (codes "nodebug" ∷ codes "debug" ∷ [])
+
 -- the parts of a listing
 abbrev pub all_parts : List Awaited
 all_parts =
     One (codes "pex" ∷ []) ∷ One (codes "source" ∷ []) ∷ One (codes "user" ∷ []) ∷ One (codes "machine" ∷ [])
-    ∷ any_number_of (codes "string") ∷ One (codes "nodebug" ∷ codes "debug" ∷ []) ∷ any_number_of (codes "flag") ∷ any_number_of (codes "object") ∷ []
+    ∷ any_number_of (codes "string") ∷ debug_line ∷ any_number_of (codes "flag") ∷ any_number_of (codes "object") ∷ []
 
 -- a value with empty strings and lists has 29 bytes
 abbrev pub list_break : List ℕ → Break

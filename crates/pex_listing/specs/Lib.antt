@@ -9,3 +9,5 @@ pub mod Reading
 pub mod Breaks
 pub mod Fields
 pub mod Left
+pub mod Parted
+pub mod Assembled

@@ -1,5 +1,5 @@
 -- What is left of a listing while its lines are read, and what reading a part of it takes.
-use Rattle.std.specs.Prelude.{◌≡◌, ℕ, ◌+◌, Bool, true, List, [], ◌∷◌, ◌++◌, Option, Some, None, unwrap_or, option_map}
+use Rattle.std.specs.Prelude.{◌≡◌, ℕ, ◌+◌, ◌≤◌, length, Bool, true, List, [], ◌∷◌, ◌++◌, Option, Some, None, unwrap_or, option_map}
 use Rattle.pex_listing.specs.Lines.{field}
 use Rattle.pex_listing.specs.declared.listing.Listing.{Listing}
 
@@ -42,6 +42,7 @@ pub record Spends (bytes : ℕ) (old new : Listing) : Type 0 where
 pub record Cuts (text : List ℕ) (old new : Listing) : Type 0 where
   pub good : Good new → Good old
   pub taken : Good new → fields_left old ≡ field text ++ fields_left new
+  pub shorter : length (fields_left new) ≤ length (fields_left old)
   pub rest : new.rest.bytes.now ≡ old.rest.bytes.now
   pub room : new.room.left ≡ old.room.left
 
@@ -49,6 +50,7 @@ pub record Cuts (text : List ℕ) (old new : Listing) : Type 0 where
 pub record Takes (text : List ℕ) (bytes : ℕ) (old new : Listing) : Type 0 where
   pub good : Good new → Good old
   pub taken : Good new → fields_left old ≡ text ++ fields_left new
+  pub shorter : length (fields_left new) ≤ length (fields_left old)
   pub room : Good new → new.room.left + bytes ≡ old.room.left
   pub rest : new.rest.bytes.now ≡ old.rest.bytes.now
 

@@ -13,6 +13,7 @@ use Rattle.pex_values.specs.Plain.{plain_instruction, plain_function, plain_name
 use Rattle.pex_values.specs.Shape.{IsShapedInstruction, IsShapedFunction, IsShapedNamed, IsShapedState, IsShapedProperty, IsShapedObject, IsShapedLines, IsShapedDebug}
 use Rattle.pex_values.specs.Spelling as spell
 use Rattle.pex_listing.specs.Lines.{line_end, number}
+use Rattle.pex_listing.specs.Breaks.{least_bytes}
 use Rattle.pex_listing.specs.Listing as form
 use Rattle.pex_listing.specs.Opened.{TakesLines}
 use Rattle.pex_listing.specs.declared.listing.Listing.{Listing}
@@ -51,18 +52,13 @@ HoldsObject strings o = IsShapedObject strings (plain_object o) × FitsObject (p
 abbrev pub HoldsLines : ℕ → PexLines → Type 0
 HoldsLines strings e = IsShapedLines strings (plain_lines e) × IsCounted (plain_lines e).lines
 
--- the bytes of a function with empty lists, where it is asked for
-abbrev pub least_function : Bool → ℕ
-least_function true = 15
-least_function false = 0
-
 -- a function that stands exactly where it is asked for; its least bytes were taken from the room before
 pub record ReadsAccessor (strings : ℕ) (spelled : ℕ → List ℕ) (word : List ℕ) (asked : Bool) (old new : Listing) (f : Option PexFunction) : Type 0 where
   pub asked_for : is_some (option_map plain_function f) ≡ asked
   pub shaped : IfSome (option_map plain_function f) (IsShapedFunction strings)
   pub fits : IfSome (option_map plain_function f) FitsFunction
   pub bytes : ℕ
-  pub whole : bytes + least_function asked ≡ length (spell.optional spell.function (option_map plain_function f))
+  pub whole : bytes + least_bytes asked ≡ length (spell.optional spell.function (option_map plain_function f))
   pub takes : TakesLines (form.accessor spelled word (option_map plain_function f)) bytes old new
 
 -- the line before the debug information

@@ -1,4 +1,7 @@
 ghost use Rattle.std.specs.Prelude.{◌≡◌};
+ghost use Rattle.pex_listing.specs.Assembled.{TellsFault, told_line};
+ghost use Rattle.pex_listing.specs.Breaks.{Break};
+ghost use Rattle.pex_listing.specs.Left.{Refuses};
 ghost use Rattle.pex_listing.specs.declared.faults.ShowFault.TheVariants as show;
 
 use papy_base::{Fault, OutOfMemory};
@@ -66,12 +69,24 @@ pub(crate) type LineRefusal = Fault<ListingRule>;
 
 pub(crate) const BAD_LINE: LineRefusal = Fault::Broken(ListingRule::BadLine);
 
-/// The fault of the whole listing, where this is the line. Fewer than 2^32 lines stand before one that is refused, since
-/// their parts wouldn't fit.
-pub(crate) fn at_line(line: u64, fault: LineRefusal) -> ListingFault {
+/// The number by which a line is told. Fewer than 2^32 lines stand before one that is refused, since their parts
+/// wouldn't fit.
+fn told_line(line: u64) -> u32
+    ensures { result ≡ told_line line }
+{
+    match u32::try_from(line) {
+        Ok(line) => line,
+        Err(_) => u32::MAX,
+    }
+}
+
+/// The fault of the whole listing, where this is the line.
+pub(crate) fn at_line(line: u64, fault: LineRefusal) -> ListingFault
+    ensures { (first : Break) → Refuses first line fault → TellsFault first result }
+{
     match fault {
         Fault::Broken(rule) => ListingFault::Broken {
-            line: u32::try_from(line).unwrap_or(u32::MAX),
+            line: told_line(line),
             rule,
         },
         Fault::OutOfMemory => ListingFault::OutOfMemory,

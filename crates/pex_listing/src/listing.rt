@@ -3,12 +3,14 @@
 ghost use Rattle.std.specs.Prelude.{◌≡◌, ℕ, List, ◌+◌, ◌<◌, ◌≤◌, ◌^◌, [], ◌∷◌, ◌++◌, false, length, vec_len, IfOk, IfErr, IfSome, Some, None, unwrap_or, option_map, if◌then◌else◌};
 ghost use Rattle.std.specs.Fmt.{signed_decimal};
 ghost use Rattle.std.specs.List.{flat_map};
+ghost use Rattle.std.specs.Str.{bytes_eq};
 ghost use Rattle.pex_values.specs.Shape.{IsReference};
 ghost use Rattle.pex_listing.specs.Lines.{eight_digits, field, number, quoted};
 ghost use Rattle.pex_listing.specs.Breaks.{Awaited, all_parts, before_byte, behind_byte, between, break_from, digits_rule, a_string, done, integer_rule, list_break, paid, reference_rule, size_rule};
 ghost use Rattle.pex_listing.specs.Left.{Counted, IsTableOf, has_field, Pays, Reads, Tested, begins, behind_field, field_in, lines_left, line_left, missing_by, noted, number_of, place_behind, view};
 ghost use Rattle.pex_listing.specs.Listing.{opcode_name, size_form};
 ghost use Rattle.pex_listing.specs.Opened.{Begun, Cuts, Ends, Gives, Good, Notes, Spends, Takes, TakesLines, fields_left, text_left};
+ghost use Rattle.pex_listing.specs.Parted.{ReadsPart, ReadsParts, opcode_by, opcode_in};
 ghost use Rattle.pex_listing.specs.Reading.{ReadsAll};
 ghost use Rattle.pex_listing.specs.Spelled.{spelled_in};
 ghost use Rattle.papy_base.specs.declared.faults.Fault.TheVariants.{Broken};
@@ -33,12 +35,19 @@ const LEAST: u32 = 29;
 /// How many opcodes there are.
 const OPCODE_COUNT: u8 = 36;
 
+fn is_name_of(word: &[u8], opcode: u8) -> bool
+    ensures { result ≡ bytes_eq word.now (opcode_name opcode) }
+{
+    word == opcode_name(opcode).as_bytes()
+}
+
 /// The opcode of this name.
 fn opcode_of(word: &[u8]) -> Option<u8>
-    ensures { IfSome result (λ code. word.now ≡ opcode_name code) }
+    ensures name { IfSome result (λ code. word.now ≡ opcode_name code) }
+    ensures place { result ≡ opcode_in word.now }
 {
     for code in 0..OPCODE_COUNT {
-        if opcode_name(code).as_bytes() == word {
+        if is_name_of(word, code) {
             return Some(code);
         }
     }
@@ -147,7 +156,8 @@ impl<'a> Listing<'a> {
 
     /// The opcode whose name the open line begins with.
     pub(crate) fn opcode(&self) -> Option<u8>
-        ensures { IfSome result (λ code. Begun (opcode_name code) 0 self.now self.now) }
+        ensures text { IfSome result (λ code. Begun (opcode_name code) 0 self.now self.now) }
+        ensures code { result ≡ opcode_by (view self.now).word }
     {
         opcode_of(self.word?)
     }
@@ -398,18 +408,24 @@ pub(crate) trait Item: Drop {
     /// Its lines, where references are spelled so.
     ghost lines: { (ℕ → List ℕ) → Self → List ℕ };
 
+    /// The words that its first line may begin with.
+    ghost words: { List (List ℕ) };
+
     /// Whether the open line begins such a part.
-    fn is_next(listing: &Listing) -> bool;
+    fn is_next(listing: &Listing) -> bool
+        ensures { result ≡ begins words (view listing.now) };
 
     /// Reads the part.
     fn read(listing: &mut Listing, names: &StringWords) -> Read<Self>
         ensures holds { IfOk result (holds (vec_len names.now.spelled)) }
-        ensures lines { IfOk result (λ part. TakesLines (lines (spelled_in names.now) part) (length (spelling part)) listing.old listing.new) };
+        ensures lines { IfOk result (λ part. TakesLines (lines (spelled_in names.now) part) (length (spelling part)) listing.old listing.new) }
+        ensures left { ReadsPart words names.now listing.old listing.new result };
 }
 
 /// All such parts that follow.
 pub(crate) fn read_all<T: Item>(listing: &mut Listing, names: &StringWords) -> Read<Vec<T>>
-    ensures { IfOk result (λ parts. ReadsAll (T.holds (vec_len names.now.spelled)) T.spelling (T.lines (spelled_in names.now)) listing.old listing.new parts.items) }
+    ensures all { IfOk result (λ parts. ReadsAll (T.holds (vec_len names.now.spelled)) T.spelling (T.lines (spelled_in names.now)) listing.old listing.new parts.items) }
+    ensures left { ReadsParts T.words names.now listing.old listing.new result }
 {
     let mut parts = Vec::new(listing.alloc);
     for _place in 0..MOST_ITEMS {

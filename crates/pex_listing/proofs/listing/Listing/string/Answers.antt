@@ -56,6 +56,7 @@ returns-clause-taken c =
       taken = λ good.
           let whole : fields_left c.args.self.now ≡ field c.in-Some.field.now = search rules in
           whole ∙ (ap field (canonical (notes.this good)) ∙ (sym (append-nil text) ∙ ap (λ t. text ++ t) (sym none)));
+      shorter = omega (arith, ap length none);
       room = λ good. omega (arith, notes.room);
       rest = notes.rest;
     }
