@@ -32,7 +32,7 @@ returns-then-not-is_pass g c =
       stops = λ place body ready.
           let before = c.loop-left.invariant.ran ready in
           let here = ready_after c.args.home.now c.args.inner.now c.loop-left.inner before.kept ready in
-          engine_stops c.args.home.now place c.args.from c.in_ok-halt.halt _ _ _ _ c.args.inner.now c.run_pass.new.inner body (act_before c.args.home.now _ c.loop-left.place c.in_ok-halt.halt _ _ _ _ _ c.args.inner.now c.loop-left.inner c.run_pass.new.inner c.loop-left.left (c.loop-left.left - 1) less before (c.in_ok-halt.ensures.ran here) (sym c.is_pass.ensures ∙ no));
+          engine_stops c.args.home.now place body c.args.from c.in_ok-halt.halt _ _ _ _ c.args.inner.now c.run_pass.new.inner (act_before c.args.home.now _ c.loop-left.place c.in_ok-halt.halt _ _ _ _ _ c.args.inner.now c.loop-left.inner c.run_pass.new.inner c.loop-left.left (c.loop-left.left - 1) less before (c.in_ok-halt.ensures.ran here) (sym c.is_pass.ensures ∙ no));
     }
 
 pub loop-left-preserved : goal.loop-left-preserved
@@ -65,4 +65,4 @@ returns-clause-stops g c = λ place body ready.
     let none : c.loop-left.left ≡ zero = omega (arith, c.loop-left-test.false) in
     let before = c.loop-left.invariant.ran ready in
     let here = ready_after c.args.home.now c.args.inner.now c.loop-left.inner before.kept ready in
-    IfOk-weaker c.run_pass-2.result _ _ (λ halt r. engine_stops c.args.home.now place c.args.from halt _ _ _ _ c.args.inner.now c.run_pass-2.new.inner body (last_pass c.args.home.now _ c.loop-left.place halt _ _ _ _ _ c.args.inner.now c.loop-left.inner c.run_pass-2.new.inner c.loop-left.left none before r)) (c.run_pass-2.ensures.ran here)
+    IfOk-weaker c.run_pass-2.result _ _ (λ halt r. engine_stops c.args.home.now place body c.args.from halt _ _ _ _ c.args.inner.now c.run_pass-2.new.inner (last_pass c.args.home.now _ c.loop-left.place halt _ _ _ _ _ c.args.inner.now c.loop-left.inner c.run_pass-2.new.inner c.loop-left.left none before r)) (c.run_pass-2.ensures.ran here)
