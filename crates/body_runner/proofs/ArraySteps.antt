@@ -26,12 +26,12 @@ use Rattle.body_runner.specs.declared.body.Home.{Home}
 use Rattle.body_runner.specs.declared.body.Inner.{Inner}
 use Rattle.body_runner.specs.Bodies.{KeepsOthers, home_of, inner_of, printing}
 use Rattle.body_runner.specs.Instructions.{number_of, Adds, Creates, CreatesOf, StoresNumber, StoresValue}
-use Rattle.body_runner.specs.Operands.{kind_of, worth, Stores}
+use Rattle.body_runner.specs.Operands.{kind_of, worth, KeepsLoans, Stores}
 use Rattle.body_runner.specs.Sights.{IsThere, Rest, arrays_of, instances_after, sight_of}
 use Rattle.body_runner.specs.Steps.{step_of, Steps}
 use Rattle.body_runner.specs.Values.{array_in, number_in}
 use Rattle.body_runner.proofs.Arrays.{as_number, as_read, element_same, fault_of, found_back_same, found_same, length_same, with_same, write_same}
-use Rattle.body_runner.proofs.Kept.{same_kept, stored_kept}
+use Rattle.body_runner.proofs.Kept.{loans_twice, same_kept, stored_kept}
 use Rattle.body_runner.proofs.Meaning.{array_same, inner_same, noted_same, number_same, seen_arrays, stored_meant, type_meant, worth_meant}
 use Rattle.body_runner.proofs.Steps.{Comes, by_fault, settles}
 
@@ -107,18 +107,18 @@ module _ (home : Home) (old new : Inner) (there : IsThere home.instance old.stor
   fault_same (Ok nothing) = refl
   fault_same (Err fault) = refl
 
-  sets : (array index value : Operand) (fault : Option StackFault) → new.store.now.arrays ≡ arrays_with old.store.now.arrays (array_in (worth home old array)) (number_of home old index) (worth home old value) → fault ≡ result_err (write_answer old.store.now.arrays (array_in (worth home old array)) (number_of home old index)) → new.store.now.instances ≡ old.store.now.instances → new.slots.now.items ≡ old.slots.now.items → Steps home (loaded.ArraySetElement array index value) (step_of fault) old new
-  sets array index value fault a f i s = record {
+  sets : (array index value : Operand) (fault : Option StackFault) → new.store.now.arrays ≡ arrays_with old.store.now.arrays (array_in (worth home old array)) (number_of home old index) (worth home old value) → fault ≡ result_err (write_answer old.store.now.arrays (array_in (worth home old array)) (number_of home old index)) → new.store.now.instances ≡ old.store.now.instances → new.slots.now.items ≡ old.slots.now.items → KeepsLoans old new → Steps home (loaded.ArraySetElement array index value) (step_of fault) old new
+  sets array index value fault a f i s loans = record {
     means = by_fault home (loaded.ArraySetElement array index value) fault old new (λ at rest. ap next (
         ap (λ o. code.noted (home_of home) at o (record (within rest) { sight = record (within rest).sight { arrays = with_element (within rest).sight.arrays (meaning.array_of (means rest array)) (meaning.number_of (means rest index)) (means rest value) } })) (sym (f ∙ (fault_same (write_answer old.store.now.arrays (array_in (worth home old array)) (number_of home old index)) ∙ (write_same old.store.now.arrays (array_in (worth home old array)) (number_of home old index) ∙ of_all rest array index value (λ xs a n v. write_fault xs a n)))))
         ∙ (ap (code.noted (home_of home) at fault) (put_within home old new rest (with_element (within rest).sight.arrays (meaning.array_of (means rest array)) (meaning.number_of (means rest index)) (means rest value)) s i (ap arrays_of a ∙ (with_same old.store.now.arrays (array_in (worth home old array)) (number_of home old index) (worth home old value) ∙ of_all rest array index value (λ xs a n v. with_element xs a n v))))
         ∙ noted_same home new rest at fault)));
-    kept = same_kept home old new i;
+    kept = same_kept home old new i loans;
   }
 
-  pub set_element : {E : Type 0} (array index value : Operand) (r : Result (Option StackFault) E) → OnOk r (new.store.now.arrays ≡ arrays_with old.store.now.arrays (array_in (worth home old array)) (number_of home old index) (worth home old value)) → IfOk r (λ fault. fault ≡ result_err (write_answer old.store.now.arrays (array_in (worth home old array)) (number_of home old index))) → new.store.now.instances ≡ old.store.now.instances → new.slots.now.items ≡ old.slots.now.items → IfOk r (λ fault. Steps home (loaded.ArraySetElement array index value) (step_of fault) old new)
-  set_element array index value (Ok fault) a f i s = sets array index value fault a f i s
-  set_element array index value (Err e) a f i s = tt
+  pub set_element : {E : Type 0} (array index value : Operand) (r : Result (Option StackFault) E) → OnOk r (new.store.now.arrays ≡ arrays_with old.store.now.arrays (array_in (worth home old array)) (number_of home old index) (worth home old value)) → IfOk r (λ fault. fault ≡ result_err (write_answer old.store.now.arrays (array_in (worth home old array)) (number_of home old index))) → new.store.now.instances ≡ old.store.now.instances → new.slots.now.items ≡ old.slots.now.items → KeepsLoans old new → IfOk r (λ fault. Steps home (loaded.ArraySetElement array index value) (step_of fault) old new)
+  set_element array index value (Ok fault) a f i s loans = sets array index value fault a f i s loans
+  set_element array index value (Err e) a f i s loans = tt
 
   -- ---- new arrays
   made : (to : Operand) (size : ℕ) (kind : CoreType) (fault : Option StackFault) → CreatesOf home old new to kind size fault → (at : ℕ) (rest : Rest) → created (home_of home) at (operand_of to) size (Some kind) (within rest) ≡ next (inner_of home new (printing home at fault rest))
@@ -137,9 +137,13 @@ module _ (home : Home) (old new : Inner) (there : IsThere home.instance old.stor
   creates to size (Some kind) fault c at rest = made to size kind fault c at rest
 
   creates_kept : (to : Operand) (size : ℕ) (kind : Option CoreType) (fault : Option StackFault) → Creates home old new to kind size fault → KeepsOthers home old new
-  creates_kept to size None fault c = same_kept home old new c.0.instances
+  creates_kept to size None fault c = same_kept home old new c.0.instances c.0.loans
   creates_kept to size (Some kind) fault c =
-      subst (λ xs. new.store.now.instances ≡ instances_after xs home.instance new.store.now.instances) c.added.instances (stored_kept home c.between new to c.value c.stored)
+      let kept = stored_kept home c.between new to c.value c.stored in
+      record {
+        others = subst (λ xs. new.store.now.instances ≡ instances_after xs home.instance new.store.now.instances) c.added.instances kept.others;
+        loans = loans_twice old c.between new c.added.loans kept.loans;
+      }
 
   pub create : (to : Operand) (size : ℕ) (fault : Option StackFault) → Creates home old new to (option_and_then element_kind (kind_of home to)) size fault → Steps home (loaded.ArrayCreate to size) (step_of fault) old new
   create to size fault c = record {

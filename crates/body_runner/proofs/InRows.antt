@@ -24,7 +24,7 @@ use Rattle.body_runner.specs.Bodies.{KeepsOthers, home_of, inner_of, printing, r
 use Rattle.body_runner.specs.Rows.{IsCodedIn, Reaches, RowMeans, Rows}
 use Rattle.body_runner.specs.Sights.{IsThere, Rest, instances_after}
 use Rattle.body_runner.specs.Steps.{jump_of, GoesOn, IsSized, Jumps, StepMeans, Steps}
-use Rattle.body_runner.proofs.Kept.{same_kept}
+use Rattle.body_runner.proofs.Kept.{loans_twice, nothing_kept}
 use Rattle.body_runner.proofs.Meaning.{inner_same}
 
 -- ---- what stays
@@ -38,8 +38,10 @@ after_twice None old between new = refl
 after_twice (Some i) old between new = set_twice old i (instance_at between i) (instance_at new i)
 
 pub kept_twice : (home : Home) (old between new : Inner) → KeepsOthers home old between → KeepsOthers home between new → KeepsOthers home old new
-kept_twice home old between new a b =
-    b ∙ (ap (λ xs. instances_after xs home.instance new.store.now.instances) a ∙ after_twice home.instance old.store.now.instances between.store.now.instances new.store.now.instances)
+kept_twice home old between new a b = record {
+  others = b.others ∙ (ap (λ xs. instances_after xs home.instance new.store.now.instances) a.others ∙ after_twice home.instance old.store.now.instances between.store.now.instances new.store.now.instances);
+  loans = loans_twice old between new a.loans b.loans;
+}
 
 still_there : (own : Option ℕ) (old new : List InstanceState) → IsThere own old → IsThere own (instances_after old own new)
 still_there None old new h = h
@@ -49,7 +51,7 @@ still_there (Some i) old new h =
 
 pub there_after : (home : Home) (old new : Inner) → KeepsOthers home old new → IsThere home.instance old.store.now.instances → IsThere home.instance new.store.now.instances
 there_after home old new kept there =
-    subst (λ xs. IsThere home.instance xs) (sym kept) (still_there home.instance old.store.now.instances new.store.now.instances there)
+    subst (λ xs. IsThere home.instance xs) (sym kept.others) (still_there home.instance old.store.now.instances new.store.now.instances there)
 
 -- ---- code by place
 dropped : {X : Type 0} (xs : List X) (n : ℕ) (x : X) → slice_get xs n ≡ Some x → drop n xs ≡ x ∷ drop (suc n) xs
@@ -265,7 +267,7 @@ module _ (home : Home) (place : ℕ) (i : LoadedInstruction) (all : List LoadedI
       record { means = halts first from halt old new s.means n b before; kept = kept_twice home first old new before.kept s.kept }
 
 pub begins : (home : Home) (from : ℕ) (inner : Inner) → Reaches home from from inner inner
-begins home from inner = record { ran = λ rest. refl; kept = same_kept home inner inner refl }
+begins home from inner = record { ran = λ rest. refl; kept = nothing_kept home inner }
 
 -- the code has no more
 pub at_end : (home : Home) (from place : ℕ) (old new : Inner) → length home.function.now.code.items ≤ place → Reaches home from place old new → Rows home from place Done old new

@@ -30,7 +30,7 @@ use Rattle.body_runner.specs.Operands.{kind_of, worth}
 use Rattle.body_runner.specs.Settings.{method_at}
 use Rattle.body_runner.specs.Sights.{IsThere, Rest}
 use Rattle.body_runner.specs.Values.{instance_in}
-use Rattle.body_runner.proofs.Kept.{same_kept}
+use Rattle.body_runner.proofs.Kept.{nothing_kept, same_kept}
 use Rattle.body_runner.proofs.Meaning.{inner_same, instance_same, noted_same, type_meant, worth_meant}
 use Rattle.body_runner.proofs.Steps.{settles}
 
@@ -76,7 +76,7 @@ module _ (home : Home) (old new : Inner) where
           is_request = is;
           stops = λ at rest. form at rest ∙ ap (Stops request at) (sym (inner_same home old new rest m.nothing));
         };
-        kept = same_kept home old new m.nothing.instances;
+        kept = same_kept home old new m.nothing.instances m.nothing.loans;
       })
 
   framed_by : (room : Bool) (at : ℕ) (to : Operand) (request : Request) (rest : Rest) → asked (home_of home) at (Some (operand_of to)) (within rest) (cond room (Act request) (Reply (code.default_at (home_of home) (operand_of to)) (faulted (home_of home).setting (code.place_of (home_of home) at) FrameLimit (within rest).sight))) ≡ cond room (Stops request at (within rest)) (settled (home_of home) at (operand_of to) (code.default_at (home_of home) (operand_of to), Some FrameLimit) (within rest))
@@ -154,13 +154,13 @@ module _ (home : Home) (inner : Inner) where
   pub static_native : (place : MethodPlace) (to : Operand) (arguments : Vec Value Global) (more : Vec Operand Global) → arguments.items ≡ map (worth home inner) more.items → true ≡ is_native_in (method_at home.turn.now.setting.now.loaded.scripts place) → (script : ℕ) (text : List ℕ) → IsFunctionAt home.turn.now.setting.now.loaded script text place → Leaves home (loaded.CallStatic script text (Some place) to more) (events.Native place arguments) inner inner
   static_native place to arguments more e native script text f = record {
     means = λ at rest. static_same home inner inner at rest script text to more place true f native ∙ ap (λ vs. ask (home_of home) at (Some (operand_of to)) (Asks (GlobalNative (record { script = place.script; place = place.place }) vs)) (inside rest)) (sym e);
-    kept = same_kept home inner inner refl;
+    kept = nothing_kept home inner;
   }
 
   pub returned : (operand : Operand) (value : Value) → value ≡ worth home inner operand → Leaves home (loaded.Return operand) (events.Returned value) inner inner
   returned operand value e = record {
     means = λ at rest. ap (λ (v : Value). Stops (Return v) at (inside rest)) (sym (e ∙ worth_meant home inner rest operand));
-    kept = same_kept home inner inner refl;
+    kept = nothing_kept home inner;
   }
 
   abbrev put_set : ℕ → Rest → Option ℕ → List ℕ → Value → Meant
@@ -173,7 +173,7 @@ module _ (home : Home) (inner : Inner) where
   pub none_set : (number : Option ℕ) (object value : Operand) → ◌≡◌ {A = Option ℕ} None (instance_in (worth home inner object)) → (text : List ℕ) → Leaves home (loaded.PropSet text number object value) (events.Refused NoneProperty) inner inner
   none_set number object value e text = record {
     means = λ at rest. set_same at rest object value None text e ∙ ap next (noted_same home inner rest at (Some NoneProperty));
-    kept = same_kept home inner inner refl;
+    kept = nothing_kept home inner;
   }
 
   set_framed : (room : Bool) (at : ℕ) (rest : Rest) (request : Request) → asked (home_of home) at None (inside rest) (cond room (Act request) (Reply values.NoneValue (faulted (home_of home).setting (code.place_of (home_of home) at) FrameLimit (inside rest).sight))) ≡ cond room (Stops request at (inside rest)) (next (code.noted (home_of home) at (Some FrameLimit) (inside rest)))
@@ -190,7 +190,7 @@ module _ (home : Home) (inner : Inner) where
   pub no_room_set : (number : Option ℕ) (target : ℕ) (object value : Operand) → Some target ≡ instance_in (worth home inner object) → home.has_room ≡ false → (text : List ℕ) → Leaves home (loaded.PropSet text number object value) (events.Refused FrameLimit) inner inner
   no_room_set number target object value e room text = record {
     means = λ at rest. set_runs at rest object value target text false room e ∙ ap next (noted_same home inner rest at (Some FrameLimit));
-    kept = same_kept home inner inner refl;
+    kept = nothing_kept home inner;
   }
 
   pub some_set : (number target : ℕ) (object value : Operand) (call : Call) (vector : Vec Value Global) → Some target ≡ instance_in (worth home inner object) → home.has_room ≡ true → call ≡ record { instance = Some target; way = ways.Set number; arguments = vector; kept = None } → vector.items ≡ worth home inner value ∷ [] → (text : List ℕ) → Leaves home (loaded.PropSet text (Some number) object value) (events.Called call) inner inner
@@ -203,5 +203,5 @@ module _ (home : Home) (inner : Inner) where
       is_request = (ap (λ (c : Call). c.instance) is, ap (λ (c : Call). c.arguments.items) is ∙ arguments);
       stops = λ at rest. set_runs at rest object value target text true room e;
     };
-    kept = same_kept home inner inner refl;
+    kept = nothing_kept home inner;
   }

@@ -15,7 +15,7 @@ use Rattle.body_runner.specs.Calls as calls
 use Rattle.body_runner.specs.Operands.{Stores}
 use Rattle.body_runner.specs.Sights.{IsThere}
 use Rattle.body_runner.specs.Steps.{Gives}
-use Rattle.body_runner.proofs.Kept.{same_kept, stored_kept}
+use Rattle.body_runner.proofs.Kept.{nothing_kept, stored_kept}
 use Rattle.body_runner.proofs.Meaning.{stored_meant}
 
 result_same : (i : LoadedInstruction) → reply_result (instruction_of i) ≡ option_map operand_of (calls.reply_result i)
@@ -63,5 +63,5 @@ gives home call o reply old new is there stored = record {
 pub drops : (home : Home) (call : LoadedInstruction) (reply : Value) (inner : Inner) → ◌≡◌ {A = Option Operand} (calls.reply_result call) None → Gives home call reply inner inner
 drops home call reply inner is = record {
   given = λ rest. ap (λ (to : Option plain.Operand). with_reply (home_of home) to reply (inner_of home inner rest)) (result_is call None is);
-  kept = same_kept home inner inner refl;
+  kept = nothing_kept home inner;
 }

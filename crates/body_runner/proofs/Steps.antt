@@ -19,16 +19,16 @@ use Rattle.loaded_code.specs.declared.operand.Operand.{Operand}
 use Rattle.body_runner.specs.declared.body.Home.{Home}
 use Rattle.body_runner.specs.declared.body.Inner.{Inner}
 use Rattle.body_runner.specs.declared.instructions.Step.{Step}
-use Rattle.body_runner.specs.declared.instructions.Step.TheVariants.{Done, Jump, Leaves}
+use Rattle.body_runner.specs.declared.instructions.Step.TheVariants.{Done, Jump}
 use Rattle.body_runner.specs.Arithmetic.{joined, quotient, remainder}
 use Rattle.body_runner.specs.Bodies.{home_of, inner_of, printing}
 use Rattle.body_runner.specs.Instructions.{number_of, StoresQuotient, StoresText}
 use Rattle.body_runner.specs.Operands.{kind_of, worth, Stores}
 use Rattle.body_runner.specs.Sights.{IsThere, Rest}
-use Rattle.body_runner.specs.Steps.{answered_of, done_of, is_leaving, jump_of, jump_step, same_truth, step_of, GoesOn, StepMeans, Steps}
+use Rattle.body_runner.specs.Steps.{answered_of, done_of, jump_of, jump_step, same_truth, step_of, GoesOn, StepMeans, Steps}
 use Rattle.body_runner.specs.Values.{is_true, text_in}
 use Rattle.body_runner.proofs.Arrays.{equal_same}
-use Rattle.body_runner.proofs.Kept.{same_kept, stored_kept}
+use Rattle.body_runner.proofs.Kept.{nothing_kept, stored_kept}
 use Rattle.body_runner.proofs.Meaning.{noted_same, number_same, stored_meant, text_same, truth_same, type_meant, worth_meant}
 
 -- ---- a step by what was answered
@@ -189,13 +189,10 @@ module _ (home : Home) (old new : Inner) (there : IsThere home.instance old.stor
 -- ---- jumps, and what does nothing
 module _ (home : Home) (inner : Inner) where
   stays : (i : LoadedInstruction) (step : Step) → StepMeans home i step inner inner → Steps home i step inner inner
-  stays i step h = record { means = h; kept = same_kept home inner inner refl }
+  stays i step h = record { means = h; kept = nothing_kept home inner }
 
   pub nop : Steps home loaded.Nop Done inner inner
   nop = stays loaded.Nop Done (λ at rest. refl)
-
-  pub leaves : (i : LoadedInstruction) → is_leaving i ≡ true → Steps home i Leaves inner inner
-  leaves i e = stays i Leaves (record { leaving = e; nothing = record { slots = refl; instances = refl; arrays = refl } })
 
   pub jmp : (offset : ℤ) (landing : ℕ) → Steps home (loaded.Jmp offset landing) (Jump landing) inner inner
   jmp offset landing = stays (loaded.Jmp offset landing) (Jump landing) (record { offset = offset; is = refl; taken = λ at rest. refl })

@@ -9,6 +9,7 @@ use Rattle.code_meaning.specs.Execution.{Halt, run_from}
 use Rattle.code_meaning.specs.Operands.{Home as Around, Inner as Within, place_of}
 use Rattle.body_runner.specs.declared.body.Home.{Home}
 use Rattle.body_runner.specs.declared.body.Inner.{Inner}
+use Rattle.body_runner.specs.Operands.{KeepsLoans}
 use Rattle.body_runner.specs.Sights.{Rest, instances_after, sight_of, titles_of}
 
 abbrev pub setting_of : Home → Setting
@@ -40,7 +41,7 @@ abbrev pub runs : Home → ℕ → Inner → Rest → Halt
 runs home place inner rest =
     run_from (home_of home) place (drop place (home_of home).function.code) 0 (inner_of home inner rest)
 
--- all other instances are as they were
-abbrev pub KeepsOthers : Home → Inner → Inner → Type 0
-KeepsOthers home old new =
-    new.store.now.instances ≡ instances_after old.store.now.instances home.instance new.store.now.instances
+-- all other instances are as they were, and the body has what was lent to it
+pub record KeepsOthers (home : Home) (old new : Inner) : Type 0 where
+  pub others : new.store.now.instances ≡ instances_after old.store.now.instances home.instance new.store.now.instances
+  pub loans : KeepsLoans old new

@@ -10,7 +10,7 @@ use Rattle.core_tree.specs.declared.value.Value.TheVariants as values
 use Rattle.loaded_code.specs.declared.operand.Operand.{Operand}
 use Rattle.body_runner.specs.declared.body.Home.{Home}
 use Rattle.body_runner.specs.declared.body.Inner.{Inner}
-use Rattle.body_runner.specs.Operands.{Stores, StoresNothing, kind_of, worth}
+use Rattle.body_runner.specs.Operands.{KeepsLoans, Stores, StoresNothing, kind_of, worth}
 use Rattle.body_runner.specs.Sights.{arrays_of}
 use Rattle.body_runner.specs.Values.{number_in}
 
@@ -49,6 +49,7 @@ pub record Adds (old new : Inner) (kind : CoreType) (size : ℕ) (made : Value �
   pub slots : new.slots.now.items ≡ old.slots.now.items
   pub instances : new.store.now.instances ≡ old.store.now.instances
   pub arrays : arrays_of new.store.now.arrays ≡ with_array (arrays_of old.store.now.arrays) kind size
+  pub loans : KeepsLoans old new
   pub made_is : made ≡ new_array (arrays_of old.store.now.arrays)
 
 -- an array is added, and then it is stored in an operand

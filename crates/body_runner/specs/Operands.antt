@@ -61,17 +61,24 @@ instances_with instances instance script (operands.Variable number) value =
 instances_with instances instance script operands.State value = state_with instances instance value
 instances_with instances instance script _ value = instances
 
+-- a body still works on the slots and the store that were lent to it
+pub record KeepsLoans (old new : Inner) : Type 0 where
+  pub slots : new.slots.ghost_name ≡ old.slots.ghost_name
+  pub store : new.store.ghost_name ≡ old.store.ghost_name
+
 -- what a value that is kept in an operand leaves: the slots, the instances, and the arrays as they were
 pub record Keeps (home : Home) (old new : Inner) (operand : Operand) (value : Value) : Type 0 where
   pub slots : new.slots.now.items ≡ slots_with old.slots.now.items operand value
   pub instances : new.store.now.instances ≡ instances_with old.store.now.instances home.instance home.script operand value
   pub arrays : new.store.now.arrays ≡ old.store.now.arrays
+  pub loans : KeepsLoans old new
 
 -- what stays where nothing is stored
 pub record StoresNothing (old new : Inner) : Type 0 where
   pub slots : new.slots.now.items ≡ old.slots.now.items
   pub instances : new.store.now.instances ≡ old.store.now.instances
   pub arrays : new.store.now.arrays ≡ old.store.now.arrays
+  pub loans : KeepsLoans old new
 
 -- a store in an operand of this type, or of no type: then it is dropped
 abbrev pub StoresTyped : Home → Inner → Inner → Option CoreType → Operand → Value → Type 0

@@ -2,7 +2,7 @@
 
 ghost use Rattle.std.specs.Prelude.{◌≡◌, IfOk, OnOk, map};
 ghost use Rattle.core_tree.specs.Values.{default_result};
-ghost use Rattle.body_runner.specs.Operands.{kind_of, state_in, state_with, worth, Keeps, Stores};
+ghost use Rattle.body_runner.specs.Operands.{kind_of, state_in, state_with, worth, Keeps, KeepsLoans, Stores};
 ghost use Rattle.body_runner.specs.Values.{is_true, number_in, text_in};
 
 use crate::casts::{counts_as_true, number_of, text_in};
@@ -183,6 +183,7 @@ impl Home<'_> {
         ensures slots { inner.new.slots.now.items ≡ inner.old.slots.now.items }
         ensures instances { OnOk result (inner.new.store.now.instances ≡ state_with inner.old.store.now.instances self.now.instance value) }
         ensures arrays { inner.new.store.now.arrays ≡ inner.old.store.now.arrays }
+        ensures loans { KeepsLoans inner.old inner.new }
     {
         let Some(instance) = self.instance else {
             drop(value);

@@ -10,7 +10,7 @@ ghost use Rattle.instance_store.specs.Arrays.{arrays_with, found, length_of, rea
 ghost use Rattle.instance_store.specs.Values.{equals};
 ghost use Rattle.body_runner.specs.Arithmetic.{joined, quotient, remainder};
 ghost use Rattle.body_runner.specs.Instructions.{number_of, Adds, Creates, StoresNumber, StoresQuotient, StoresText, StoresValue};
-ghost use Rattle.body_runner.specs.Operands.{kind_of, worth, Stores};
+ghost use Rattle.body_runner.specs.Operands.{kind_of, worth, KeepsLoans, Stores};
 ghost use Rattle.body_runner.specs.Sights.{IsThere};
 ghost use Rattle.body_runner.specs.Steps.{answered_of, done_of, jump_step, same_truth, IsSized, Steps};
 ghost use Rattle.body_runner.specs.Values.{array_in, is_true, text_in};
@@ -396,6 +396,7 @@ impl Home<'_> {
         ensures fault { let arrays = inner.old.store.now.arrays in IfOk result (λ fault. fault ≡ result_err (write_answer arrays (array_in (worth self.now inner.old array.now)) (number_of self.now inner.old index.now))) }
         ensures instances { inner.new.store.now.instances ≡ inner.old.store.now.instances }
         ensures slots { inner.new.slots.now.items ≡ inner.old.slots.now.items }
+        ensures loans { KeepsLoans inner.old inner.new }
     {
         let target = self.value(inner, array)?;
         let at = self.number(inner, index)?;

@@ -41,7 +41,7 @@ use Rattle.body_runner.specs.Rows.{LeavesAt, RowMeans, Rows}
 use Rattle.body_runner.specs.Sights.{Rest, sight_of}
 use Rattle.body_runner.specs.Steps.{is_leaving}
 use Rattle.body_runner.proofs.InRows.{kept_twice, runs_step}
-use Rattle.body_runner.proofs.Kept.{same_kept}
+use Rattle.body_runner.proofs.Kept.{nothing_kept}
 use Rattle.stack_machine.specs.declared.run.Act.TheVariants as acts
 use Rattle.stack_machine.specs.declared.run.Halt.{Halt as Halts}
 use Rattle.stack_machine.specs.Runs.{asked_reply, beside, bytes_of, from_halt, from_place, halted, native_at, Answers, ComesTo, Follows, GivesAt, GoesTo, HasRun, IsAct, IsHalt, IsReady, Meant, Performs, RunsTo}
@@ -154,7 +154,7 @@ module _ (home : Home) where
   pub begun : (from : ℕ) (devices : List DeviceState) (now : Option (List ℕ)) (inner : Inner) → HasRun home (from_place home from inner devices) from devices now now inner inner
   begun from devices now inner = record {
     goes = goes_at_once (from_place home from inner devices) from devices now inner (λ printed. refl);
-    kept = same_kept home inner inner refl;
+    kept = nothing_kept home inner;
   }
 
   -- ---- the end of the code
@@ -174,7 +174,7 @@ module _ (home : Home) where
       let end : Halts = record { at = place; act = acts.Return (default_result home.function.now.result) } in
       subst (λ (x : Halts). RunsTo home (from_place home place inner devices) x devices now now inner inner) (sym e) (record {
         comes = comes_at_once (from_place home place inner devices) end (Return (default_result home.function.now.result)) devices now inner refl (λ printed. ends place inner (beside devices printed) h);
-        kept = same_kept home inner inner refl;
+        kept = nothing_kept home inner;
       })
 
   -- ---- what follows a row
@@ -184,14 +184,14 @@ module _ (home : Home) where
   pub on_pass : (place landing : ℕ) (devices : List DeviceState) (now : Option (List ℕ)) (inner : Inner) → RunsTo home (from_halt home place (steps.Jump landing) inner devices) (record { at = landing; act = acts.Pass }) devices now now inner inner
   on_pass place landing devices now inner = record {
     comes = comes_at_once (from_halt home place (steps.Jump landing) inner devices) (record { at = landing; act = acts.Pass }) LoopPass devices now inner refl (λ printed. refl);
-    kept = same_kept home inner inner refl;
+    kept = nothing_kept home inner;
   }
 
   pub on_fault : (place : ℕ) (fault : StackFault) (halt : Option Halts) (devices : List DeviceState) (before now : Option (List ℕ)) (inner : Inner) → halt ≡ None → Appended (bytes_of (Faulted home.turn.now.stack (place_of (home_of home) place) fault ∷ [])) before now → Follows home (from_halt home place (steps.Faulted fault) inner devices) place halt devices before now inner inner
   on_fault place fault halt devices before now inner e p =
       subst (λ (x : Option Halts). Follows home (from_halt home place (steps.Faulted fault) inner devices) place x devices before now inner inner) (sym e) (record {
         comes = record { lines = Faulted home.turn.now.stack (place_of (home_of home) place) fault ∷ []; written = p; goes = λ printed. refl };
-        kept = same_kept home inner inner refl;
+        kept = nothing_kept home inner;
       })
 
   -- ---- what calls or returns

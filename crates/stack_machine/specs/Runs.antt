@@ -1,7 +1,8 @@
 -- What the run of a body is in the terms of the definitions, with the lines that it writes.
-use Rattle.std.specs.Prelude.{◌≡◌, ℕ, zero, suc, ◌≤◌, pred, Bool, true, false, List, ◌++◌, drop, flat_map, length, map, Option, Some, None, slice_get}
+use Rattle.std.specs.Prelude.{◌≡◌, ℕ, zero, suc, ◌+◌, ◌<◌, ◌≤◌, ◌^◌, pred, Bool, true, false, List, ◌++◌, drop, flat_map, length, map, Option, Some, None, IfSome, slice_get}
 use Rattle.core_tree.specs.declared.expression.FunctionPlace.{FunctionPlace}
 use Rattle.core_tree.specs.declared.value.Value.{Value}
+use Rattle.core_tree.specs.declared.value.Value.TheVariants.{NoneValue}
 use Rattle.core_tree.specs.Device.{DeviceState}
 use Rattle.papy_io.specs.Sink.{Appended}
 use Rattle.script_meaning.specs.Report.{ended, line_text}
@@ -11,27 +12,30 @@ use Rattle.script_meaning.specs.Turns.{run_on}
 use Rattle.script_meaning.specs.World.{Line}
 use Rattle.code_meaning.specs.Engine.{code_engine}
 use Rattle.code_meaning.specs.Execution.{Halt, reply_result, run_from, with_reply}
-use Rattle.code_meaning.specs.LookUp.{BodyPlace, function_at, script_of}
+use Rattle.code_meaning.specs.LookUp.{Body, BodyPlace, function_at, script_of}
 use Rattle.code_meaning.specs.Operands.{Home as Around, Inner as Within}
 use Rattle.loaded_code.specs.Plain.{instruction_of}
 use Rattle.loaded_code.specs.declared.instruction.LoadedInstruction.{LoadedInstruction}
 use Rattle.loaded_code.specs.declared.script.LoadedFunction.{LoadedFunction}
 use Rattle.loaded_code.specs.declared.script.MethodPlace.{MethodPlace}
-use Rattle.pex_verify.specs.Plain.{outline_of}
+use Rattle.pex_verify.specs.Plain.{outline_of, scripts_of}
 use Rattle.pex_verify.specs.Sets.{LoadedSet}
 use Rattle.instance_store.specs.Instances.{InstanceState}
 use Rattle.body_runner.specs.declared.body.Home.{Home}
 use Rattle.body_runner.specs.declared.body.Inner.{Inner}
 use Rattle.body_runner.specs.declared.body.Turn.{Turn}
 use Rattle.body_runner.specs.declared.frame.Call.{Call}
+use Rattle.body_runner.specs.declared.frame.Frame.{Frame}
 use Rattle.body_runner.specs.declared.setting.Setting.{Setting}
+use Rattle.body_runner.specs.declared.store.Store.{Store}
 use Rattle.body_runner.specs.declared.instructions.Step.{Step}
 use Rattle.body_runner.specs.declared.instructions.Step.TheVariants as steps
 use Rattle.body_runner.specs.Bodies.{KeepsOthers, home_of, inner_of, printing, runs}
+use Rattle.body_runner.specs.Frames.{place_of}
 use Rattle.body_runner.specs.Leaving.{IsLeaving, IsRequest, way_asked, way_of, way_told}
-use Rattle.body_runner.specs.Settings.{binding_in}
+use Rattle.body_runner.specs.Settings.{binding_in, function_of}
 use Rattle.body_runner.specs.Rows.{IsCodedIn, LeavesAt}
-use Rattle.body_runner.specs.Sights.{IsThere, Rest}
+use Rattle.body_runner.specs.Sights.{IsThere, Rest, instances_after, sight_of, titles_of}
 use Rattle.body_runner.specs.Steps.{is_leaving, Gives}
 use Rattle.stack_machine.specs.declared.run.Act.{Act}
 use Rattle.stack_machine.specs.declared.run.Act.TheVariants as acts
@@ -207,11 +211,50 @@ pub record IsBodyAt (home : Home) (place : BodyPlace) : Type 0 where
   pub function : function_at (home_of home).scripts place ≡ Some (home_of home).function
   pub script : script_of place ≡ home.script
 
--- a body came to an act, as the engine of code runs it through as many loop passes as a turn may have
-pub record Stops (home : Home) (place : BodyPlace) (from : ℕ) (halt : Halts) (devices devices' : List DeviceState) (before now : Option (List ℕ)) (old new : Inner) : Type 0 where
+-- a body came to an act, as the engine of code runs it, given a reply where it awaits one, through as many loop passes as a
+-- turn may have: from slots and a store to others. No instance changes but its own
+pub record Stops (home : Home) (place : BodyPlace) (from : ℕ) (reply : Option Value) (halt : Halts) (devices devices' : List DeviceState) (before now : Option (List ℕ)) (first last : List Value) (old new : Store) : Type 0 where
   pub lines : List Line
   pub written : Appended (bytes_of lines) before now
   pub request : Request
   pub is_act : IsAct home.function.now home.script home.instance halt.at halt.act request
-  pub stops : (printed : List Line) → run_on (code_engine (home_of home).setting.outline (home_of home).scripts) (home_of home).setting (pred home.turn.now.setting.now.scene.quantum) (record { place = place; instruction = from; slots = old.slots.now.items }) None (inner_of home old (beside devices printed)).sight ≡ record { request = request; body = record { place = place; instruction = halt.at; slots = new.slots.now.items }; sight = (inner_of home new (beside devices' (printed ++ lines))).sight }
-  pub kept : KeepsOthers home old new
+  pub stops : (printed : List Line) → run_on (code_engine (home_of home).setting.outline (home_of home).scripts) (home_of home).setting (pred home.turn.now.setting.now.scene.quantum) (record { place = place; instruction = from; slots = first }) reply (sight_of old.instances old.arrays home.instance (beside devices printed)) ≡ record { request = request; body = record { place = place; instruction = halt.at; slots = last }; sight = sight_of new.instances new.arrays home.instance (beside devices' (printed ++ lines)) }
+  pub kept : new.instances ≡ instances_after old.instances home.instance new.instances
+
+-- ---- frames
+abbrev pub body_of : Frame → Body
+body_of frame = record { place = place_of frame.body; instruction = frame.place; slots = frame.slots.items }
+
+-- the setting of a body on an instance, where its stack has room for one more frame or not
+abbrev pub setting_on : Turn → Bool → Option ℕ → meant.Setting
+setting_on turn has_room own = record {
+  stack = turn.stack;
+  self = own;
+  outline = outline_of turn.setting.now.loaded;
+  instances = titles_of turn.setting.now.scene;
+  natives = turn.setting.now.scene.natives.items;
+  has_room = has_room;
+}
+
+-- what a frame needs of its set, of its scene and of the store
+pub record MayRun (turn : Turn) (frame : Frame) (instances : List InstanceState) : Type 0 where
+  pub there : IsThere frame.instance instances
+  pub found : IfSome (function_of turn.setting.now.loaded.scripts frame.body) (AreFound turn.setting.now.loaded)
+  pub bound : AreBound turn.setting.now
+  pub place : frame.place + 1 < 2 ^ 64
+
+-- the act of a body that may have no function: then it gives None
+abbrev pub IsActWhere : Option LoadedFunction → ℕ → Option ℕ → ℕ → Act → Request → Type 0
+IsActWhere None script own at act request = (act ≡ acts.Return NoneValue) × (request ≡ Return NoneValue)
+IsActWhere (Some function) script own at act request = IsAct function script own at act request
+
+-- a frame came to an act, as the engine of code runs its body, given a reply where it awaits one
+pub record FrameStops (turn : Turn) (has_room : Bool) (reply : Option Value) (act : Act) (devices devices' : List DeviceState) (before now : Option (List ℕ)) (first last : Frame) (old new : Store) : Type 0 where
+  pub lines : List Line
+  pub written : Appended (bytes_of lines) before now
+  pub request : Request
+  pub is_act : IsActWhere (function_of turn.setting.now.loaded.scripts first.body) (script_of (place_of first.body)) first.instance last.place act request
+  pub instance : last.instance ≡ first.instance
+  pub body : last.body ≡ first.body
+  pub stops : (printed : List Line) → run_on (code_engine (outline_of turn.setting.now.loaded) (scripts_of turn.setting.now.loaded)) (setting_on turn has_room first.instance) (pred turn.setting.now.scene.quantum) (body_of first) reply (sight_of old.instances old.arrays first.instance (beside devices printed)) ≡ record { request = request; body = body_of last; sight = sight_of new.instances new.arrays first.instance (beside devices' (printed ++ lines)) }
+  pub kept : new.instances ≡ instances_after old.instances first.instance new.instances

@@ -1,7 +1,7 @@
 //! The run of a stack, up to what ends its turn.
 #![tactic(auto, using(crate::proofs::Sinks::sinks))]
 
-ghost use Rattle.std.specs.Prelude.{◌≡◌, [], ◌∷◌, IfOk, List, None, OnOk, Some, map, pred, slice_get};
+ghost use Rattle.std.specs.Prelude.{◌≡◌, ◌+◌, ◌<◌, ◌^◌, [], ◌∷◌, IfOk, List, None, OnOk, Some, map, pred, slice_get};
 ghost use Rattle.core_tree.specs.Values.{default_result};
 ghost use Rattle.papy_io.specs.Sink.{Appended};
 ghost use Rattle.script_meaning.specs.World.{Faulted};
@@ -9,11 +9,12 @@ ghost use Rattle.code_meaning.specs.LookUp.{BodyPlace};
 ghost use Rattle.code_meaning.specs.Operands.{place_of};
 ghost use Rattle.loaded_code.specs.declared.instruction.LoadedInstruction.{LoadedInstruction};
 ghost use Rattle.body_runner.specs.Bodies.{home_of};
+ghost use Rattle.body_runner.specs.Operands.{KeepsLoans};
 ghost use Rattle.body_runner.specs.Rows.{LeavesAt};
 ghost use Rattle.body_runner.specs.Sights.{IsThere};
 ghost use Rattle.latent_natives.specs.Devices.{SameKinds};
 ghost use Rattle.stack_machine.specs.Machine.{CountsTurn};
-ghost use Rattle.stack_machine.specs.Runs.{bytes_of, from_halt, from_passes, from_place, is_pass, Answers, Follows, GivesAt, IsBodyAt, IsHalt, IsReady, RunsTo, Stops};
+ghost use Rattle.stack_machine.specs.Runs.{bytes_of, from_halt, from_passes, from_place, is_pass, Answers, Follows, FrameStops, GivesAt, IsBodyAt, IsHalt, IsReady, MayRun, RunsTo, Stops};
 ghost use Rattle.stack_machine.specs.declared.run.Act.TheVariants as acts;
 ghost use Rattle.stack_machine.specs.Written.{WritesLines};
 
@@ -63,6 +64,7 @@ pub fn run<S: Sink>(
     ensures appended { WritesLines result (S.written sink.old) (S.written sink.new) }
     ensures count { CountsTurn result (S.faults sink.old) (S.faults sink.new) }
     ensures kinds { SameKinds (map (λ d. device_state d) devices.old.items) (map (λ d. device_state d) devices.new.items) }
+    ensures ran { MayRun turn.now innermost.old store.old.instances → IfOk result (λ act. FrameStops turn.now has_room reply act (map (λ d. device_state d) devices.old.items) (map (λ d. device_state d) devices.new.items) (S.written sink.old) (S.written sink.new) innermost.old innermost.new store.old store.new) }
 {
     let Some(function) = turn.setting.function(innermost.body) else {
         drop(reply);
@@ -102,14 +104,32 @@ fn run_from<S: Sink>(
     ensures appended { WritesLines result (S.written sink.old) (S.written sink.new) }
     ensures count { CountsTurn result (S.faults sink.old) (S.faults sink.new) }
     ensures kinds { SameKinds (map (λ d. device_state d) devices.old.items) (map (λ d. device_state d) devices.new.items) }
+    ensures stops { (place : BodyPlace) → IsBodyAt home.now place → IsReady home.now store.old.instances → from + 1 < 2 ^ 64 → IfOk result (λ halt. Stops home.now place from reply halt (map (λ d. device_state d) devices.old.items) (map (λ d. device_state d) devices.new.items) (S.written sink.old) (S.written sink.new) slots.old.items slots.new.items store.old store.new) }
 {
     let mut inner = Inner { slots, store };
-    let mut place = from;
-    if let Some(reply) = reply {
-        give(home, &mut inner, place, reply)?;
-        place = place.saturating_add(1);
+    match reply {
+        Some(reply) => resume(home, &mut inner, from, reply, sink, devices),
+        None => run_on(home, &mut inner, from, sink, devices),
     }
-    run_on(home, &mut inner, place, sink, devices)
+}
+
+// Stores the reply that a body awaits, and runs it on behind its act.
+fn resume<S: Sink>(
+    home: &Home<'_>,
+    inner: &mut Inner<'_>,
+    from: usize,
+    reply: Value,
+    sink: &mut S,
+    devices: &mut Vec<Box<dyn Device>>,
+) -> Result<Halt, TurnFault>
+    ensures appended { WritesLines result (S.written sink.old) (S.written sink.new) }
+    ensures count { CountsTurn result (S.faults sink.old) (S.faults sink.new) }
+    ensures kinds { SameKinds (map (λ d. device_state d) devices.old.items) (map (λ d. device_state d) devices.new.items) }
+    ensures loans { IsReady home.now inner.old.store.now.instances → OnOk result (KeepsLoans inner.old inner.new) }
+    ensures stops { (place : BodyPlace) → IsBodyAt home.now place → IsReady home.now inner.old.store.now.instances → from + 1 < 2 ^ 64 → IfOk result (λ halt. Stops home.now place from (Some reply) halt (map (λ d. device_state d) devices.old.items) (map (λ d. device_state d) devices.new.items) (S.written sink.old) (S.written sink.new) inner.old.slots.now.items inner.new.slots.now.items inner.old.store.now inner.new.store.now) }
+{
+    give(home, inner, from, reply)?;
+    run_on(home, inner, from.saturating_add(1), sink, devices)
 }
 
 // Stores the reply to the act at a place.
@@ -137,7 +157,8 @@ fn run_on<S: Sink>(
     ensures count { CountsTurn result (S.faults sink.old) (S.faults sink.new) }
     ensures kinds { SameKinds (map (λ d. device_state d) devices.old.items) (map (λ d. device_state d) devices.new.items) }
     ensures ran { IsReady home.now inner.old.store.now.instances → IfOk result (λ halt. RunsTo home.now (from_passes home.now (pred home.now.turn.now.setting.now.scene.quantum) from inner.old (map (λ d. device_state d) devices.old.items)) halt (map (λ d. device_state d) devices.new.items) (S.written sink.old) (S.written sink.new) inner.old inner.new) }
-    ensures stops { (place : BodyPlace) → IsBodyAt home.now place → IsReady home.now inner.old.store.now.instances → IfOk result (λ halt. Stops home.now place from halt (map (λ d. device_state d) devices.old.items) (map (λ d. device_state d) devices.new.items) (S.written sink.old) (S.written sink.new) inner.old inner.new) }
+    ensures loans { IsReady home.now inner.old.store.now.instances → OnOk result (KeepsLoans inner.old inner.new) }
+    ensures stops { (place : BodyPlace) → IsBodyAt home.now place → IsReady home.now inner.old.store.now.instances → IfOk result (λ halt. Stops home.now place from None halt (map (λ d. device_state d) devices.old.items) (map (λ d. device_state d) devices.new.items) (S.written sink.old) (S.written sink.new) inner.old.slots.now.items inner.new.slots.now.items inner.old.store.now inner.new.store.now) }
 {
     let mut place = from;
     let mut left = home.turn.setting.scene.quantum.saturating_sub(1);

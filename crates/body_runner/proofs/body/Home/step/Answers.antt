@@ -64,7 +64,7 @@ pub returns-in-ArrayRFindElement : goal.returns-in-ArrayRFindElement
 returns-in-ArrayRFindElement c = λ there sized. answers c.args.self.now c.args.instruction.now (loaded.ArrayRFindElement c.in-ArrayRFindElement.array c.in-ArrayRFindElement.result c.in-ArrayRFindElement.value c.in-ArrayRFindElement.start) c.args.inner.now c.find_element-in-ArrayRFindElement.new.inner c.find_element-in-ArrayRFindElement.result c.answered-in-ArrayRFindElement.result c.in-ArrayRFindElement.is c.answered-in-ArrayRFindElement.ensures (IfOk-weaker c.find_element-in-ArrayRFindElement.result _ _ (find_back c.args.self.now c.args.inner.now c.find_element-in-ArrayRFindElement.new.inner there c.in-ArrayRFindElement.array c.in-ArrayRFindElement.result c.in-ArrayRFindElement.value c.in-ArrayRFindElement.start) c.find_element-in-ArrayRFindElement.ensures)
 
 pub returns-in-ArraySetElement : goal.returns-in-ArraySetElement
-returns-in-ArraySetElement c = λ there sized. answers c.args.self.now c.args.instruction.now (loaded.ArraySetElement c.in-ArraySetElement.array c.in-ArraySetElement.index c.in-ArraySetElement.value) c.args.inner.now c.set_element.new.inner c.set_element.result c.answered-in-ArraySetElement.result c.in-ArraySetElement.is c.answered-in-ArraySetElement.ensures (set_element c.args.self.now c.args.inner.now c.set_element.new.inner there c.in-ArraySetElement.array c.in-ArraySetElement.index c.in-ArraySetElement.value c.set_element.result c.set_element.ensures.arrays c.set_element.ensures.fault c.set_element.ensures.instances c.set_element.ensures.slots)
+returns-in-ArraySetElement c = λ there sized. answers c.args.self.now c.args.instruction.now (loaded.ArraySetElement c.in-ArraySetElement.array c.in-ArraySetElement.index c.in-ArraySetElement.value) c.args.inner.now c.set_element.new.inner c.set_element.result c.answered-in-ArraySetElement.result c.in-ArraySetElement.is c.answered-in-ArraySetElement.ensures (set_element c.args.self.now c.args.inner.now c.set_element.new.inner there c.in-ArraySetElement.array c.in-ArraySetElement.index c.in-ArraySetElement.value c.set_element.result c.set_element.ensures.arrays c.set_element.ensures.fault c.set_element.ensures.instances c.set_element.ensures.slots c.set_element.ensures.loans)
 
 pub returns-in-ArrayCreate : goal.returns-in-ArrayCreate
 returns-in-ArrayCreate c = λ there sized. answers c.args.self.now c.args.instruction.now (loaded.ArrayCreate c.in-ArrayCreate.result c.in-ArrayCreate.size) c.args.inner.now c.create_array.new.inner c.create_array.result c.answered-in-ArrayCreate.result c.in-ArrayCreate.is c.answered-in-ArrayCreate.ensures (IfOk-weaker c.create_array.result _ _ (create c.args.self.now c.args.inner.now c.create_array.new.inner there c.in-ArrayCreate.result c.in-ArrayCreate.size) (c.create_array.ensures (subst IsSized c.in-ArrayCreate.is sized)))
