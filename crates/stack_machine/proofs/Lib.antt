@@ -1,5 +1,6 @@
 pub mod AsMany
 pub mod Begun
+pub mod Entering
 pub mod Noting
 pub mod Passes
 pub mod Performing

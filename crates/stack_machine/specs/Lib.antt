@@ -1,3 +1,4 @@
+pub mod Entering
 pub mod Faults
 pub mod Machine
 pub mod Moves

@@ -1,6 +1,8 @@
 //! What the acts of a stack in its turn do to its frames and its place.
 
+ghost use Rattle.std.specs.Prelude.{◌≡◌};
 ghost use Rattle.stack_places.specs.Places.{SameStandings};
+ghost use Rattle.stack_machine.specs.Entering.{arguments_in};
 ghost use Rattle.stack_machine.specs.Standing.{IsInTurn};
 
 use body_runner::{Call, CallWay, Frame, LoadedBody, Stack, Turn};
@@ -147,7 +149,9 @@ fn end(turn: &Turn<'_>, places: &mut Places, stack: &mut Stack, value: Value)
 // ---- what is taken out of a stack that changes
 
 /// The arguments of a stack's innermost call.
-pub fn arguments_out(alloc: Global, stack: &mut Stack) -> Vec<Value> {
+pub fn arguments_out(alloc: Global, stack: &mut Stack) -> Vec<Value>
+    ensures { result.items ≡ arguments_in stack.old }
+{
     match stack {
         Stack::ToEnter { call, .. } => mem::replace(&mut call.arguments, Vec::new(alloc)),
         _ => Vec::new(alloc),

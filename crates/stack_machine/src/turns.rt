@@ -3,7 +3,9 @@
 
 ghost use Rattle.std.specs.Prelude.{OnOk, map};
 ghost use Rattle.latent_natives.specs.Devices.{SameKinds};
+ghost use Rattle.stack_machine.specs.Entering.{arguments_in, PerformsOnce};
 ghost use Rattle.stack_machine.specs.Machine.{CountsTurn};
+ghost use Rattle.stack_machine.specs.Runs.{AreBound};
 ghost use Rattle.stack_machine.specs.Standing.{IsInTurn};
 ghost use Rattle.stack_machine.specs.Written.{WritesLines};
 ghost use Rattle.stack_places.specs.Places.{SameStandings};
@@ -103,6 +105,7 @@ fn native_entered<S: Sink>(
     ensures count { CountsTurn result (S.faults sink.old) (S.faults sink.new) }
     ensures kinds { SameKinds (map (λ d. device_state d) devices.old.items) (map (λ d. device_state d) devices.new.items) }
     ensures places { OnOk result (SameStandings places.old places.new) }
+    ensures performed { AreBound turn.now.setting.now → OnOk result (PerformsOnce turn.now at (arguments_in stack.old) (map (λ d. device_state d) devices.old.items) (map (λ d. device_state d) devices.new.items) (S.written sink.old) (S.written sink.new)) }
 {
     let arguments = arguments_out(turn.alloc, stack);
     if !is_prompt(turn.setting, at) {
@@ -129,6 +132,7 @@ fn native_done<S: Sink>(
     ensures count { CountsTurn result (S.faults sink.old) (S.faults sink.new) }
     ensures kinds { SameKinds (map (λ d. device_state d) devices.old.items) (map (λ d. device_state d) devices.new.items) }
     ensures places { OnOk result (SameStandings places.old places.new) }
+    ensures performed { AreBound turn.now.setting.now → OnOk result (PerformsOnce turn.now at arguments.items (map (λ d. device_state d) devices.old.items) (map (λ d. device_state d) devices.new.items) (S.written sink.old) (S.written sink.new)) }
 {
     let value = perform(turn, at, &arguments, sink, devices)?;
     let latency = latency_of(turn.setting, at, &arguments);
