@@ -1,5 +1,5 @@
 -- Runs of bodies over several loop passes, and runs of frames.
-use Rattle.std.proofs.Common.{◌≡◌, ℕ, zero, suc, ◌-◌, Bool, true, false, List, [], ◌++◌, Option, Some, None, Result, Ok, Err, OnOk, refl, sym, ap, subst, ◌∙◌, arith, append_assoc, append-nil}
+use Rattle.std.proofs.Common.{◌≡◌, ℕ, zero, suc, ◌-◌, Bool, true, false, List, [], ◌++◌, Option, Some, None, Result, Ok, Err, IfOk, OnOk, refl, sym, ap, subst, ◌∙◌, arith, append_assoc, append-nil}
 use Rattle.std.specs.Prelude.{pred, slice_get, IfSome}
 use Rattle.std.specs.Option.{option_and_then, option_map}
 use Rattle.std.proofs.lemmas.Option.{slice_get-map}
@@ -16,7 +16,7 @@ use Rattle.script_meaning.specs.Turns as turns
 use Rattle.script_meaning.specs.World.{Line}
 use Rattle.code_meaning.specs.Code.{Function, Script}
 use Rattle.code_meaning.specs.Engine.{code_engine}
-use Rattle.code_meaning.specs.Execution.{Halt, reply_result, resumed, run_from, run_function, stop_at, with_reply}
+use Rattle.code_meaning.specs.Execution.{Halt, reply_result, resumed, run_function, stop_at, with_reply}
 use Rattle.code_meaning.specs.Execution as exec
 use Rattle.code_meaning.specs.LookUp.{Body, BodyPlace, function_at, script_of}
 use Rattle.code_meaning.specs.Operands as code
@@ -167,6 +167,10 @@ module _ (outline : List ScriptShape) (scripts : List Script) (setting : Setting
   ran_replied (suc left) body reply sight is =
       let halt = resumed (around body) body.instruction (Some reply) (record { slots = body.slots; sight = sight }) in
       ap (λ (s : Stop Body). turns.past_pass (λ next after. run_on (code_engine outline scripts) setting left next None after) s s.request) (ran_once body (Some reply) sight is) ∙ past_by body left halt halt.request (λ next after same. ran_passes left next after (ap (function_at scripts) same ∙ is))
+
+pub ran_loans : {T E : Type 0} (result : Result T E) (P : T → Type 0) (Q : Type 0) → ((value : T) → P value → Q) → IfOk result P → OnOk result Q
+ran_loans (Ok value) P Q f h = f value h
+ran_loans (Err e) P Q f h = tt
 
 -- ---- replies
 pub gave_kept : (home : Home) (i : Option LoadedInstruction) (reply : Value) (old new : Inner) → GivesAt home i reply old new → KeepsOthers home old new

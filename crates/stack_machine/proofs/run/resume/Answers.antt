@@ -1,4 +1,4 @@
-use Rattle.std.proofs.Common.{◌≡◌, ◌+◌, suc, ◌∙◌, refl, sym, arith}
+use Rattle.std.proofs.Common.{◌≡◌, suc, arith}
 use Rattle.std.specs.Prelude.{slice_get}
 use Rattle.std.proofs.lemmas.Result.{IfOk-weaker}
 use Rattle.stack_machine.proofs.Passes.{gave_kept, ready_after, replied_loans, replied_stops}

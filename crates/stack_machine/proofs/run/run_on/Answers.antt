@@ -1,6 +1,7 @@
 use Rattle.std.proofs.Common.{◌≡◌, ◌-◌, ◌∙◌, suc, zero, true, false, refl, sym, arith, rules}
 use Rattle.std.proofs.lemmas.Result.{err_from_is_err_and, IfOk-weaker}
-use Rattle.stack_machine.proofs.Passes.{act_before, engine_stops, last_pass, one_pass, passes_begun, pred_same, ready_after}
+use Rattle.body_runner.proofs.Kept.{loans_twice}
+use Rattle.stack_machine.proofs.Passes.{act_before, engine_stops, last_pass, one_pass, passes_begun, pred_same, ran_loans, ready_after}
 use Rattle.stack_machine.proofs.Sinks.{fault_behind_lines, lines_before, lines_more, lines_none}
 use Rattle.stack_machine.proofs.run.run_on.Goals as goal
 
@@ -29,6 +30,10 @@ returns-then-not-is_pass g c =
           let before = c.loop-left.invariant.ran ready in
           let here = ready_after c.args.home.now c.args.inner.now c.loop-left.inner before.kept ready in
           act_before c.args.home.now _ c.loop-left.place c.in_ok-halt.halt _ _ _ _ _ c.args.inner.now c.loop-left.inner c.run_pass.new.inner c.loop-left.left (c.loop-left.left - 1) less before (c.in_ok-halt.ensures.ran here) (sym c.is_pass.ensures ∙ no);
+      loans = λ ready.
+          let before = c.loop-left.invariant.ran ready in
+          let here = ready_after c.args.home.now c.args.inner.now c.loop-left.inner before.kept ready in
+          loans_twice c.args.inner.now c.loop-left.inner c.run_pass.new.inner before.kept.loans (c.in_ok-halt.ensures.ran here).kept.loans;
       stops = λ place body ready.
           let before = c.loop-left.invariant.ran ready in
           let here = ready_after c.args.home.now c.args.inner.now c.loop-left.inner before.kept ready in
@@ -59,6 +64,12 @@ returns-clause-ran g c = λ ready.
     let before = c.loop-left.invariant.ran ready in
     let here = ready_after c.args.home.now c.args.inner.now c.loop-left.inner before.kept ready in
     IfOk-weaker c.run_pass-2.result _ _ (λ halt r. last_pass c.args.home.now _ c.loop-left.place halt _ _ _ _ _ c.args.inner.now c.loop-left.inner c.run_pass-2.new.inner c.loop-left.left none before r) (c.run_pass-2.ensures.ran here)
+
+pub returns-clause-loans : goal.returns-clause-loans
+returns-clause-loans g c = λ ready.
+    let before = c.loop-left.invariant.ran ready in
+    let here = ready_after c.args.home.now c.args.inner.now c.loop-left.inner before.kept ready in
+    ran_loans c.run_pass-2.result _ _ (λ halt r. loans_twice c.args.inner.now c.loop-left.inner c.run_pass-2.new.inner before.kept.loans r.kept.loans) (c.run_pass-2.ensures.ran here)
 
 pub returns-clause-stops : goal.returns-clause-stops
 returns-clause-stops g c = λ place body ready.
