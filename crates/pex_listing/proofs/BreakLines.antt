@@ -1,8 +1,10 @@
 -- A break is told at a line of the text.
-use Rattle.std.proofs.Common.{◌≡◌, ℕ, suc, ◌+◌, ◌<◌, ◌≤◌, ◌==◌, ◌&&◌, Bool, true, false, cond, List, [], ◌∷◌, length, Some, None, ap, ⊎_elim, arith}
-use Rattle.std.proofs.lemmas.Bool.{cases_Bool, cond-true, cond-false}
+use Rattle.std.proofs.Common.{◌≡◌, ℕ, suc, ◌+◌, ◌<◌, ◌≤◌, ◌==◌, ◌&&◌, Bool, true, false, cond, List, [], ◌∷◌, length, Some, None, refl, sym, ap, ◌∙◌, ⊎_elim, arith}
+use Rattle.std.proofs.lemmas.Bool.{cases_Bool, cond-true, cond-false, lt-ltb}
+use Rattle.pex_listing.specs.Assembled.{TellsFault, told_line}
 use Rattle.pex_listing.specs.Breaks.{Awaited, Break, Outcome, Passed, Place, Refused, all_parts, before_byte, behind_byte, behind_line, between, break_from, first_of, left_after, list_break, may_end, read_line}
 use Rattle.pex_listing.proofs.Leaving.{between_cut, cut_behind}
+use Rattle.pex_listing.specs.declared.faults.ListingFault.TheVariants.{Broken}
 use Rattle.pex_listing.specs.declared.faults.ListingRule.{ListingRule}
 use Rattle.pex_listing.specs.declared.faults.ListingRule.TheVariants.{End}
 
@@ -53,3 +55,13 @@ module _ (n : ℕ) (rule : ListingRule) where
 
   pub break_line : (text : List ℕ) → list_break text ≡ told n rule → n ≤ suc (length text)
   break_line text is = let within = line_within (between 10 text) (record { awaited = all_parts; strings = []; room = 16777187; number = 1 }) is in omega (arith, within, pieces text)
+
+-- in a text whose lines 32 bits count, the line is told as it is
+pub told_exactly : (text : List ℕ) (line : ℕ) (rule : ListingRule) → length text < 4294967295 → TellsFault (list_break text) (Broken line rule) → list_break text ≡ Some (line, rule)
+told_exactly text line rule small tells = by (list_break text) (λ n broken at. break_line n broken text at) tells
+  where
+    by : (first : Break) → ((n : ℕ) (broken : ListingRule) → first ≡ told n broken → n ≤ suc (length text)) → TellsFault first (Broken line rule) → first ≡ told line rule
+    by None within is = absurd (none_some line rule is)
+    by (Some found) within is =
+        let few : told_line found.0 ≡ found.0 = cond-true _ _ _ (lt-ltb found.0 4294967296 (omega (arith, within found.0 found.1 refl))) in
+        ap (λ k. told k found.1) (sym few) ∙ is
