@@ -1,30 +1,23 @@
 -- The debug information and the flags of a listing break no rule.
-use Rattle.std.proofs.Common.{◌≡◌, ℕ, zero, suc, ◌+◌, ◌<◌, ◌≤◌, ◌^◌, Bool, true, false, List, [], ◌∷◌, ◌++◌, length, map, Option, Some, None, is_some, refl, sym, ap, subst, ◌∙◌, append_assoc, append-nil, ⊎_elim, arith}
-use Rattle.std.specs.Prelude.{codes, ◌||◌, IfSome}
+use Rattle.std.proofs.Common.{◌≡◌, ℕ, zero, suc, ◌+◌, ◌<◌, ◌≤◌, ◌^◌, List, [], ◌∷◌, ◌++◌, length, map, Option, Some, None, refl, sym, ap, ◌∙◌, append_assoc, arith}
+use Rattle.std.specs.Prelude.{codes, IfSome}
 use Rattle.std.specs.Fmt.{decimal}
 use Rattle.std.specs.List.{flat_map, AllByRecursion}
-use Rattle.std.specs.Str.{bytes_eq}
-use Rattle.std.proofs.lemmas.Bool.{cond-true, false≢true, lt-ltb}
+use Rattle.std.proofs.lemmas.Bool.{lt-ltb}
 use Rattle.std.proofs.lemmas.List.{length-append}
-use Rattle.pex_values.specs.Bits as bits_of
-use Rattle.pex_values.specs.declared.values.PexVariable.{PexVariable}
-use Rattle.pex_values.specs.declared.values.SizeForm.{SizeForm}
-use Rattle.pex_values.specs.declared.values.SizeForm.TheVariants.{Counted, Bare}
-use Rattle.pex_values.specs.Fit.{IsCounted, FitsFunction, FitsState, FitsProperty, FitsObject, FitsDebug}
-use Rattle.pex_values.specs.Opcodes.{operands_of}
-use Rattle.pex_values.specs.Plain.{PlainInstruction, PlainFunction, PlainState, PlainProperty, PlainObject, PlainLines, PlainDebug}
-use Rattle.pex_values.specs.Shape.{ArePair, IsReference, IsShapedInstruction, IsShapedFunction, IsShapedNamed, IsShapedState, IsShapedVariable, IsShapedProperty, IsShapedObject, IsShapedLines, IsShapedDebug, IsShapedFlag}
+use Rattle.pex_values.specs.Fit.{IsCounted, FitsDebug}
+use Rattle.pex_values.specs.Plain.{PlainLines, PlainDebug}
+use Rattle.pex_values.specs.Shape.{IsShapedLines, IsShapedDebug, IsShapedFlag}
 use Rattle.pex_values.specs.Spelling as spell
-use Rattle.pex_values.proofs.Sizes.{function_size, named_size, variable_size, property_size, state_size, object_data_size, object_size, lines_size, debug_size, no_debug_size}
-use Rattle.pex_listing.specs.Breaks.{Awaited, debug_line, One, Many, Form, Found, a_field, a_name, a_number, a_value, accessor_lines, asked, done, function_line, function_lines, judged, least_bytes, left_after, line_of, may_stand, numbers, object_lines, opcode_line, operands, own_variable, paid, pair_line, property_end, size_rule, some_flags, a_byte, a_time}
+use Rattle.pex_values.proofs.Sizes.{lines_size, debug_size, no_debug_size}
+use Rattle.pex_listing.specs.Breaks.{Awaited, debug_line, Many, a_name, done, judged, line_of, numbers, paid, a_byte, a_time}
 use Rattle.pex_listing.specs.Lines.{number, reference}
 use Rattle.pex_listing.specs.Listing as form
-use Rattle.pex_listing.proofs.Cuts.{is_token}
 use Rattle.pex_listing.proofs.OneField.{decimal_token, reference_token}
 use Rattle.pex_listing.proofs.Unbroken.{number_unbroken, reference_unbroken}
-use Rattle.listing_laws.proofs.Steps.{AreTokens, Clean, OneClean, clear, each_clean, fields_clean, none_more, row, same_awaited, same_room, same_text, weaken, word_rank}
-use Rattle.listing_laws.proofs.Forms.{datum_fields, datum_row, datum_tokens, datums_row, datums_tokens, field_so, beside, byte_rule, flags_rule, time_rule, is_opcode, number_so, opcode_among, opcode_place, opcode_rank, opcode_so, opcode_token, paid_so, tokens_both, value_so}
-use Rattle.listing_laws.proofs.Parts.{IsState, accessor_bytes, accessor_clean, beyond, both, read_line, state_clean, write_line}
+use Rattle.listing_laws.proofs.Steps.{AreTokens, Clean, OneClean, clear, each_clean, fields_clean, row, same_room, same_text, weaken}
+use Rattle.listing_laws.proofs.Forms.{beside, byte_rule, time_rule}
+use Rattle.listing_laws.proofs.Parts.{both}
 
 module _ (strings : List (List ℕ)) where
   numbers_so : (n : ℕ) (ks : List ℕ) → length ks ≤ n → AllByRecursion (λ k. k < 2 ^ 16) ks → numbers n (map decimal ks) ≡ clear (length (flat_map spell.two_bytes ks)) [] []
@@ -63,19 +56,19 @@ module _ (strings : List (List ℕ)) where
 
   lines_form : (e : PlainLines) → IsLines e → paid 9 (a_name strings (a_name strings (a_name strings (a_byte (numbers 65535))))) (lines_fields e) ≡ clear (9 + length (flat_map spell.two_bytes e.lines)) [] []
   lines_form e holds = λ i. beside 9 (judged (reference_unbroken strings e.object holds.0.object i) (judged (reference_unbroken strings e.state holds.0.state i) (judged (reference_unbroken strings e.function holds.0.function i)
-    (judged (byte_rule e.kind holds.0.kind i) (numbers_so 65535 e.lines (omega (arith, holds.1)) holds.0.lines i)))))
+      (judged (byte_rule e.kind holds.0.kind i) (numbers_so 65535 e.lines (omega (arith, holds.1)) holds.0.lines i)))))
 
   lines_clean : (awaited : List Awaited) → OneClean IsLines (form.lines (reference strings)) spell.lines strings 5 (codes "lines" ∷ []) refl awaited
   lines_clean awaited = λ e n rest r holds few next.
-    let line = codes "lines" ++ row (lines_fields e) r in
-    let before = Many (codes "lines" ∷ []) n ∷ awaited in
-    let bytes = 9 + length (flat_map spell.two_bytes e.lines) in
-    same_text 5 before strings (length (spell.lines e) + rest) line _ (lines_row e r)
-    (same_room 5 before strings (bytes + rest) line (length (spell.lines e) + rest) (omega (arith, lines_size e))
-    (fields_clean 5 before strings (codes "lines") bytes rest [] r (omega arith) (lt-ltb n 65535 few) (lines_fields e) refl
-    (reference_token strings e.object holds.0.object, (reference_token strings e.state holds.0.state, (reference_token strings e.function holds.0.function, (decimal_token e.kind (omega (arith, holds.0.kind)), numbers_tokens e.lines holds.0.lines))))
-    (λ text. lines_text text (lines_fields e) ∙ lines_form e holds)
-    (weaken 0 5 (Many (codes "lines" ∷ []) (suc n) ∷ awaited) strings rest r (omega arith) next)))
+      let line = codes "lines" ++ row (lines_fields e) r in
+      let before = Many (codes "lines" ∷ []) n ∷ awaited in
+      let bytes = 9 + length (flat_map spell.two_bytes e.lines) in
+      same_text 5 before strings (length (spell.lines e) + rest) line _ (lines_row e r)
+      (same_room 5 before strings (bytes + rest) line (length (spell.lines e) + rest) (omega (arith, lines_size e))
+      (fields_clean 5 before strings (codes "lines") bytes rest [] r (omega arith) (lt-ltb n 65535 few) (lines_fields e) refl
+      (reference_token strings e.object holds.0.object, (reference_token strings e.state holds.0.state, (reference_token strings e.function holds.0.function, (decimal_token e.kind (omega (arith, holds.0.kind)), numbers_tokens e.lines holds.0.lines))))
+      (λ text. lines_text text (lines_fields e) ∙ lines_form e holds)
+      (weaken 0 5 (Many (codes "lines" ∷ []) (suc n) ∷ awaited) strings rest r (omega arith) next)))
 
   -- ---- flags
 
@@ -94,12 +87,12 @@ module _ (strings : List (List ℕ)) where
 
   pub flag_clean : (awaited : List Awaited) → OneClean (IsShapedFlag (length strings)) (form.flag (reference strings)) spell.flag strings 6 (codes "flag" ∷ []) refl awaited
   flag_clean awaited = λ f n rest r holds few next.
-    let before = Many (codes "flag" ∷ []) n ∷ awaited in
-    same_text 6 before strings (3 + rest) (codes "flag" ++ row (flag_fields f) r) _ (flag_row f r)
-    (fields_clean 6 before strings (codes "flag") 3 rest [] r (omega arith) (lt-ltb n 65535 few) (flag_fields f) refl
-    (reference_token strings f.0 holds.name, (decimal_token f.1 (omega (arith, holds.index)), tt))
-    (λ text. flag_text text (flag_fields f) ∙ flag_form f holds)
-    (weaken 0 6 (Many (codes "flag" ∷ []) (suc n) ∷ awaited) strings rest r (omega arith) next))
+      let before = Many (codes "flag" ∷ []) n ∷ awaited in
+      same_text 6 before strings (3 + rest) (codes "flag" ++ row (flag_fields f) r) _ (flag_row f r)
+      (fields_clean 6 before strings (codes "flag") 3 rest [] r (omega arith) (lt-ltb n 65535 few) (flag_fields f) refl
+      (reference_token strings f.0 holds.name, (decimal_token f.1 (omega (arith, holds.index)), tt))
+      (λ text. flag_text text (flag_fields f) ∙ flag_form f holds)
+      (weaken 0 6 (Many (codes "flag" ∷ []) (suc n) ∷ awaited) strings rest r (omega arith) next))
 
   -- ---- debug information
 

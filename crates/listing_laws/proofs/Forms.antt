@@ -1,12 +1,11 @@
 -- The fields that a listing writes break no rule, and take the bytes of what they spell.
-use Rattle.std.proofs.Common.{◌≡◌, ℕ, zero, suc, ℤ, pos, negsuc, ◌+◌, ◌<◌, ◌≤◌, ◌^◌, ◌==◌, Bool, true, false, List, [], ◌∷◌, ◌++◌, length, map, Option, Some, None, refl, sym, ap, subst, ◌∙◌, append_assoc, append-nil, ⊎_elim, arith}
+use Rattle.std.proofs.Common.{◌≡◌, ℕ, zero, suc, ℤ, pos, negsuc, ◌+◌, ◌<◌, ◌≤◌, ◌^◌, ◌==◌, Bool, true, false, List, [], ◌∷◌, ◌++◌, length, Option, Some, None, refl, sym, ap, subst, ◌∙◌, append_assoc, ⊎_elim, arith}
 use Rattle.std.specs.Prelude.{codes, FitsSigned}
 use Rattle.std.specs.Fmt.{decimal, signed_decimal}
 use Rattle.std.specs.Int.{w32}
 use Rattle.std.specs.List.{list_all, list_any, flat_map, position, AllByRecursion}
 use Rattle.std.specs.Str.{bytes_eq}
-use Rattle.std.specs.Str.Parse.{digits_value}
-use Rattle.std.proofs.lemmas.Bool.{agree_below_at, and_from, and_parts, cases_Bool, cases_lt, cond-true, cond-false, eqb-true, false≢true, lt-ltb}
+use Rattle.std.proofs.lemmas.Bool.{agree_below_at, and_from, cases_Bool, cases_lt, cond-true, cond-false, eqb-true, false≢true, lt-ltb}
 use Rattle.std.proofs.lemmas.Fmt.{decimal_nonempty, digits_decimal, digits_value-decimal}
 use Rattle.std.proofs.lemmas.List.{length-append}
 use Rattle.std.proofs.lemmas.Option.{slice_get_past}
@@ -14,12 +13,10 @@ use Rattle.papy_base.proofs.DigitLemmas.{digit_numerals}
 use Rattle.pex_values.specs.declared.values.Datum.{Datum}
 use Rattle.pex_values.specs.declared.values.Datum.TheVariants.{NoneValue, Word, Quoted, Int, Float, Bool as BoolByte}
 use Rattle.pex_values.specs.Opcodes.{operand_table, operands_of}
-use Rattle.pex_values.specs.Plain.{PlainInstruction}
-use Rattle.pex_values.specs.Shape.{AgreesWith, IsReference, IsShapedDatum, IsShapedInstruction}
+use Rattle.pex_values.specs.Shape.{AgreesWith, IsReference, IsShapedDatum}
 use Rattle.pex_values.specs.Spelling as spell
-use Rattle.pex_values.proofs.Sizes.{counted_size, plain_size}
-use Rattle.pex_listing.specs.Breaks.{Awaited, Form, Found, a_byte, a_field, a_name, a_number, a_value, digits_rule, done, judged, line_of, more_values, number_by_value, number_in, number_rule, numbers, opcode_line, operands, paid, some_flags, values, values_behind, written, integer_rule}
-use Rattle.pex_listing.specs.Lines.{eight_digits, number, reference}
+use Rattle.pex_listing.specs.Breaks.{Awaited, Form, Found, a_field, a_name, a_number, a_value, digits_rule, judged, more_values, number_by_value, number_in, number_rule, operands, paid, values, values_behind, written, integer_rule}
+use Rattle.pex_listing.specs.Lines.{eight_digits, reference}
 use Rattle.pex_listing.specs.Listing as form
 use Rattle.pex_listing.specs.Numbers.{are_digits, is_hex_digit}
 use Rattle.pex_listing.proofs.Cuts.{is_token, token_of}

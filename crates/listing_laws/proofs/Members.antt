@@ -1,29 +1,26 @@
 -- The variables, properties and objects of a listing break no rule.
-use Rattle.std.proofs.Common.{◌≡◌, ℕ, zero, suc, ◌+◌, ◌<◌, ◌≤◌, ◌^◌, Bool, true, false, List, [], ◌∷◌, ◌++◌, length, map, Option, Some, None, is_some, refl, sym, ap, subst, ◌∙◌, append_assoc, append-nil, ⊎_elim, arith}
-use Rattle.std.specs.Prelude.{codes, ◌||◌, IfSome}
+use Rattle.std.proofs.Common.{◌≡◌, ℕ, suc, ◌+◌, true, List, [], ◌∷◌, ◌++◌, length, Option, Some, None, is_some, refl, sym, ap, ◌∙◌, append_assoc, arith}
+use Rattle.std.specs.Prelude.{codes, IfSome}
 use Rattle.std.specs.Fmt.{decimal}
-use Rattle.std.specs.List.{flat_map, AllByRecursion}
-use Rattle.std.specs.Str.{bytes_eq}
-use Rattle.std.proofs.lemmas.Bool.{cond-true, false≢true, lt-ltb}
-use Rattle.std.proofs.lemmas.List.{length-append}
+use Rattle.std.specs.List.{flat_map}
+use Rattle.std.proofs.lemmas.Bool.{lt-ltb}
 use Rattle.pex_values.specs.Bits as bits_of
 use Rattle.pex_values.specs.declared.values.PexVariable.{PexVariable}
 use Rattle.pex_values.specs.declared.values.SizeForm.{SizeForm}
 use Rattle.pex_values.specs.declared.values.SizeForm.TheVariants.{Counted, Bare}
-use Rattle.pex_values.specs.Fit.{IsCounted, FitsFunction, FitsState, FitsProperty, FitsObject, FitsDebug}
-use Rattle.pex_values.specs.Opcodes.{operands_of}
-use Rattle.pex_values.specs.Plain.{PlainInstruction, PlainFunction, PlainState, PlainProperty, PlainObject, PlainLines, PlainDebug}
-use Rattle.pex_values.specs.Shape.{ArePair, IsReference, IsShapedInstruction, IsShapedFunction, IsShapedNamed, IsShapedState, IsShapedVariable, IsShapedProperty, IsShapedObject, IsShapedLines, IsShapedDebug, IsShapedFlag}
+use Rattle.pex_values.specs.Fit.{FitsState, FitsProperty, FitsObject}
+use Rattle.pex_values.specs.Plain.{PlainProperty, PlainObject}
+use Rattle.pex_values.specs.Shape.{IsReference, IsShapedState, IsShapedVariable, IsShapedProperty, IsShapedObject}
 use Rattle.pex_values.specs.Spelling as spell
-use Rattle.pex_values.proofs.Sizes.{function_size, named_size, variable_size, property_size, state_size, object_data_size, object_size, lines_size, debug_size, no_debug_size}
-use Rattle.pex_listing.specs.Breaks.{Awaited, One, Many, Form, Found, a_field, a_name, a_number, a_value, accessor_lines, asked, done, function_line, function_lines, judged, least_bytes, left_after, line_of, may_stand, numbers, object_lines, opcode_line, operands, own_variable, paid, pair_line, property_end, size_rule, some_flags, a_byte, a_time}
-use Rattle.pex_listing.specs.Lines.{number, reference}
+use Rattle.pex_values.proofs.Sizes.{variable_size, property_size, object_data_size, object_size}
+use Rattle.pex_listing.specs.Breaks.{Awaited, Many, Form, a_field, a_name, a_number, a_value, accessor_lines, asked, done, judged, least_bytes, line_of, object_lines, own_variable, paid, property_end, size_rule, some_flags}
+use Rattle.pex_listing.specs.Lines.{reference}
 use Rattle.pex_listing.specs.Listing as form
 use Rattle.pex_listing.proofs.Cuts.{is_token}
 use Rattle.pex_listing.proofs.OneField.{decimal_token, reference_token}
-use Rattle.pex_listing.proofs.Unbroken.{number_unbroken, reference_unbroken}
-use Rattle.listing_laws.proofs.Steps.{AreTokens, Clean, OneClean, clear, each_clean, fields_clean, none_more, row, same_awaited, same_room, same_text, weaken, word_rank}
-use Rattle.listing_laws.proofs.Forms.{datum_fields, datum_row, datum_tokens, datums_row, datums_tokens, field_so, beside, byte_rule, flags_rule, time_rule, is_opcode, number_so, opcode_among, opcode_place, opcode_rank, opcode_so, opcode_token, paid_so, tokens_both, value_so}
+use Rattle.pex_listing.proofs.Unbroken.{reference_unbroken}
+use Rattle.listing_laws.proofs.Steps.{AreTokens, Clean, OneClean, clear, each_clean, fields_clean, none_more, row, same_awaited, same_room, same_text, weaken}
+use Rattle.listing_laws.proofs.Forms.{datum_fields, datum_row, datum_tokens, beside, flags_rule, number_so, tokens_both, value_so}
 use Rattle.listing_laws.proofs.Parts.{IsState, accessor_bytes, accessor_clean, beyond, both, read_line, state_clean, write_line}
 
 module _ (strings : List (List ℕ)) where
@@ -44,19 +41,19 @@ module _ (strings : List (List ℕ)) where
 
   variable_form : (v : PexVariable) → IsShapedVariable (length strings) v → paid 8 (a_name strings (a_name strings (some_flags (a_value strings (done [] []))))) (variable_fields v) ≡ clear (8 + (length (spell.datum v.value) + 0)) [] []
   variable_form v shaped = λ i. beside 8 (judged (reference_unbroken strings v.name shaped.name i) (judged (reference_unbroken strings v.kind shaped.kind i)
-    (judged (flags_rule v.flags shaped.flags i) (value_so strings 0 [] (done [] []) v.value [] shaped.value refl i))))
+      (judged (flags_rule v.flags shaped.flags i) (value_so strings 0 [] (done [] []) v.value [] shaped.value refl i))))
 
   variable_clean : (awaited : List Awaited) → OneClean (IsShapedVariable (length strings)) (form.variable (reference strings)) spell.variable strings 5 (codes "variable" ∷ []) refl awaited
   variable_clean awaited = λ v n rest r holds few next.
-    let line = codes "variable" ++ row (variable_fields v) r in
-    let before = Many (codes "variable" ∷ []) n ∷ awaited in
-    let bytes = 8 + (length (spell.datum v.value) + 0) in
-    same_text 5 before strings (length (spell.variable v) + rest) line _ (variable_row v r)
-    (same_room 5 before strings (bytes + rest) line (length (spell.variable v) + rest) (omega (arith, variable_size v))
-    (fields_clean 5 before strings (codes "variable") bytes rest [] r (omega arith) (lt-ltb n 65535 few) (variable_fields v) refl
-    (reference_token strings v.name holds.name, (reference_token strings v.kind holds.kind, (decimal_token v.flags (omega (arith, holds.flags)), tokens_both strings (datum_fields strings v.value) [] (datum_tokens strings v.value holds.value) tt)))
-    (λ text. variable_line text (variable_fields v) ∙ variable_form v holds)
-    (weaken 0 5 (Many (codes "variable" ∷ []) (suc n) ∷ awaited) strings rest r (omega arith) next)))
+      let line = codes "variable" ++ row (variable_fields v) r in
+      let before = Many (codes "variable" ∷ []) n ∷ awaited in
+      let bytes = 8 + (length (spell.datum v.value) + 0) in
+      same_text 5 before strings (length (spell.variable v) + rest) line _ (variable_row v r)
+      (same_room 5 before strings (bytes + rest) line (length (spell.variable v) + rest) (omega (arith, variable_size v))
+      (fields_clean 5 before strings (codes "variable") bytes rest [] r (omega arith) (lt-ltb n 65535 few) (variable_fields v) refl
+      (reference_token strings v.name holds.name, (reference_token strings v.kind holds.kind, (decimal_token v.flags (omega (arith, holds.flags)), tokens_both strings (datum_fields strings v.value) [] (datum_tokens strings v.value holds.value) tt)))
+      (λ text. variable_line text (variable_fields v) ∙ variable_form v holds)
+      (weaken 0 5 (Many (codes "variable" ∷ []) (suc n) ∷ awaited) strings rest r (omega arith) next)))
 
   -- ---- properties
 
@@ -111,8 +108,8 @@ module _ (strings : List (List ℕ)) where
   property_form : (p : PlainProperty) → IsShapedProperty (length strings) p
       → paid 11 (a_name strings (a_name strings (a_name strings (some_flags (a_number 0 255 (property_end strings)))))) (property_fields p) ≡ clear (property_bytes p) (accessor_lines p.bits) []
   property_form p shaped = λ i. beside 11 (judged (reference_unbroken strings p.name shaped.name i) (judged (reference_unbroken strings p.kind shaped.kind i) (judged (reference_unbroken strings p.doc shaped.doc i)
-    (judged (flags_rule p.flags shaped.flags i)
-    (number_so (length (spell.optional spell.two_bytes p.variable) + (least p + 0)) (accessor_lines p.bits) [] 0 255 (property_end strings) p.bits (own_fields p.variable) (omega arith) (omega (arith, shaped.bits)) (omega arith) (end_so p shaped) i)))))
+      (judged (flags_rule p.flags shaped.flags i)
+      (number_so (length (spell.optional spell.two_bytes p.variable) + (least p + 0)) (accessor_lines p.bits) [] 0 255 (property_end strings) p.bits (own_fields p.variable) (omega arith) (omega (arith, shaped.bits)) (omega arith) (end_so p shaped) i)))))
 
   property_room : (p : PlainProperty) (rest : ℕ) → IsShapedProperty (length strings) p → length (spell.property p) + rest ≡ property_bytes p + (beyond strings p.read + (beyond strings p.write + rest))
   property_room p rest shaped =
@@ -122,25 +119,25 @@ module _ (strings : List (List ℕ)) where
 
   property_clean : (awaited : List Awaited) → OneClean IsProperty (form.property (reference strings)) spell.property strings 6 (codes "property" ∷ []) refl awaited
   property_clean awaited = λ p n rest r holds few next.
-    let shaped = holds.0 in
-    let line = codes "property" ++ row (property_fields p) (accessors p r) in
-    let before = Many (codes "property" ∷ []) n ∷ awaited in
-    let after = Many (codes "property" ∷ []) (suc n) ∷ awaited in
-    let room = beyond strings p.read + (beyond strings p.write + rest) in
-    let write = accessor_clean strings (codes "write") (write_line strings) (omega arith) refl refl p.write after rest r shaped.write holds.1.write (weaken 3 6 after strings rest r (omega arith) next) in
-    let read = accessor_clean strings (codes "read") (read_line strings) (omega arith) refl refl p.read (asked (is_some p.write) (codes "write") ++ after) (beyond strings p.write + rest)
-    (form.accessor (reference strings) (codes "write") p.write ++ r) shaped.read holds.1.read write in
-    let inside : accessor_lines p.bits ++ after ≡ asked (is_some p.read) (codes "read") ++ (asked (is_some p.write) (codes "write") ++ after) =
-    append_assoc (asked (bits_of.has_read p.bits) (codes "read")) (asked (bits_of.has_write p.bits) (codes "write")) after
-    ∙ ap (λ b. asked b (codes "read") ++ (asked (bits_of.has_write p.bits) (codes "write") ++ after)) (sym shaped.has_read)
-    ∙ ap (λ b. asked (is_some p.read) (codes "read") ++ (asked b (codes "write") ++ after)) (sym shaped.has_write) in
-    same_text 6 before strings (length (spell.property p) + rest) line _ (property_row p r)
-    (same_room 6 before strings (property_bytes p + room) line (length (spell.property p) + rest) (property_room p rest shaped)
-    (fields_clean 6 before strings (codes "property") (property_bytes p) room (accessor_lines p.bits) (accessors p r) (omega arith) (lt-ltb n 65535 few) (property_fields p) refl
-    (reference_token strings p.name shaped.name, (reference_token strings p.kind shaped.kind, (reference_token strings p.doc shaped.doc, (decimal_token p.flags (omega (arith, shaped.flags)), (decimal_token p.bits (omega (arith, shaped.bits)), own_tokens p.variable shaped.variable)))))
-    (λ text. property_text text (property_fields p) ∙ property_form p shaped)
-    (same_awaited 0 (asked (is_some p.read) (codes "read") ++ (asked (is_some p.write) (codes "write") ++ after)) strings room (accessors p r) (accessor_lines p.bits ++ after) inside
-    (weaken 0 3 (asked (is_some p.read) (codes "read") ++ (asked (is_some p.write) (codes "write") ++ after)) strings room (accessors p r) (omega arith) read))))
+      let shaped = holds.0 in
+      let line = codes "property" ++ row (property_fields p) (accessors p r) in
+      let before = Many (codes "property" ∷ []) n ∷ awaited in
+      let after = Many (codes "property" ∷ []) (suc n) ∷ awaited in
+      let room = beyond strings p.read + (beyond strings p.write + rest) in
+      let write = accessor_clean strings (codes "write") (write_line strings) (omega arith) refl refl p.write after rest r shaped.write holds.1.write (weaken 3 6 after strings rest r (omega arith) next) in
+      let read = accessor_clean strings (codes "read") (read_line strings) (omega arith) refl refl p.read (asked (is_some p.write) (codes "write") ++ after) (beyond strings p.write + rest)
+      (form.accessor (reference strings) (codes "write") p.write ++ r) shaped.read holds.1.read write in
+      let inside : accessor_lines p.bits ++ after ≡ asked (is_some p.read) (codes "read") ++ (asked (is_some p.write) (codes "write") ++ after) =
+      append_assoc (asked (bits_of.has_read p.bits) (codes "read")) (asked (bits_of.has_write p.bits) (codes "write")) after
+      ∙ ap (λ b. asked b (codes "read") ++ (asked (bits_of.has_write p.bits) (codes "write") ++ after)) (sym shaped.has_read)
+      ∙ ap (λ b. asked (is_some p.read) (codes "read") ++ (asked b (codes "write") ++ after)) (sym shaped.has_write) in
+      same_text 6 before strings (length (spell.property p) + rest) line _ (property_row p r)
+      (same_room 6 before strings (property_bytes p + room) line (length (spell.property p) + rest) (property_room p rest shaped)
+      (fields_clean 6 before strings (codes "property") (property_bytes p) room (accessor_lines p.bits) (accessors p r) (omega arith) (lt-ltb n 65535 few) (property_fields p) refl
+      (reference_token strings p.name shaped.name, (reference_token strings p.kind shaped.kind, (reference_token strings p.doc shaped.doc, (decimal_token p.flags (omega (arith, shaped.flags)), (decimal_token p.bits (omega (arith, shaped.bits)), own_tokens p.variable shaped.variable)))))
+      (λ text. property_text text (property_fields p) ∙ property_form p shaped)
+      (same_awaited 0 (asked (is_some p.read) (codes "read") ++ (asked (is_some p.write) (codes "write") ++ after)) strings room (accessors p r) (accessor_lines p.bits ++ after) inside
+      (weaken 0 3 (asked (is_some p.read) (codes "read") ++ (asked (is_some p.write) (codes "write") ++ after)) strings room (accessors p r) (omega arith) read))))
 
   -- ---- objects
 
@@ -184,7 +181,7 @@ module _ (strings : List (List ℕ)) where
   object_form : (o : PlainObject) → IsShapedObject (length strings) o
       → paid 22 (a_name strings (a_field size_rule (a_name strings (a_name strings (some_flags (a_name strings (done object_lines []))))))) (object_fields o) ≡ clear 22 object_lines []
   object_form o shaped = λ i. beside 22 (judged (reference_unbroken strings o.name shaped.name i) (judged (size_so o.size_form i) (judged (reference_unbroken strings o.parent shaped.parent i) (judged (reference_unbroken strings o.doc shaped.doc i)
-    (judged (flags_rule o.flags shaped.flags i) (judged (reference_unbroken strings o.auto_state shaped.auto_state i) (clear 0 object_lines [])))))))
+      (judged (flags_rule o.flags shaped.flags i) (judged (reference_unbroken strings o.auto_state shaped.auto_state i) (clear 0 object_lines [])))))))
 
   abbrev member_bytes : PlainObject → ℕ → ℕ
   member_bytes o rest = length (flat_map spell.variable o.variables) + (length (flat_map spell.property o.properties) + (length (flat_map spell.state o.states) + rest))
@@ -204,13 +201,13 @@ module _ (strings : List (List ℕ)) where
 
   pub object_clean : (awaited : List Awaited) → OneClean IsObject (form.object (reference strings)) spell.object strings 8 (codes "object" ∷ []) refl awaited
   object_clean awaited = λ o n rest r holds few next.
-    let shaped = holds.0 in
-    let line = codes "object" ++ row (object_fields o) (members o r) in
-    let before = Many (codes "object" ∷ []) n ∷ awaited in
-    let after = Many (codes "object" ∷ []) (suc n) ∷ awaited in
-    same_text 8 before strings (length (spell.object o) + rest) line _ (object_row o r)
-    (same_room 8 before strings (22 + member_bytes o rest) line (length (spell.object o) + rest) (omega (arith, object_size o, object_data_size o))
-    (fields_clean 8 before strings (codes "object") 22 (member_bytes o rest) object_lines (members o r) (omega arith) (lt-ltb n 65535 few) (object_fields o) refl
-    (reference_token strings o.name shaped.name, (size_token o.size_form, (reference_token strings o.parent shaped.parent, (reference_token strings o.doc shaped.doc, (decimal_token o.flags (omega (arith, shaped.flags)), (reference_token strings o.auto_state shaped.auto_state, tt))))))
-    (λ text. object_text text (object_fields o) ∙ object_form o shaped)
-    (weaken 0 5 (object_lines ++ after) strings (member_bytes o rest) (members o r) (omega arith) (members_clean o after rest r holds next))))
+      let shaped = holds.0 in
+      let line = codes "object" ++ row (object_fields o) (members o r) in
+      let before = Many (codes "object" ∷ []) n ∷ awaited in
+      let after = Many (codes "object" ∷ []) (suc n) ∷ awaited in
+      same_text 8 before strings (length (spell.object o) + rest) line _ (object_row o r)
+      (same_room 8 before strings (22 + member_bytes o rest) line (length (spell.object o) + rest) (omega (arith, object_size o, object_data_size o))
+      (fields_clean 8 before strings (codes "object") 22 (member_bytes o rest) object_lines (members o r) (omega arith) (lt-ltb n 65535 few) (object_fields o) refl
+      (reference_token strings o.name shaped.name, (size_token o.size_form, (reference_token strings o.parent shaped.parent, (reference_token strings o.doc shaped.doc, (decimal_token o.flags (omega (arith, shaped.flags)), (reference_token strings o.auto_state shaped.auto_state, tt))))))
+      (λ text. object_text text (object_fields o) ∙ object_form o shaped)
+      (weaken 0 5 (object_lines ++ after) strings (member_bytes o rest) (members o r) (omega arith) (members_clean o after rest r holds next))))

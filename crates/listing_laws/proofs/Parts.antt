@@ -1,29 +1,25 @@
 -- The parts of a listing behind its string table break no rule.
-use Rattle.std.proofs.Common.{◌≡◌, ℕ, zero, suc, ◌+◌, ◌<◌, ◌≤◌, ◌^◌, Bool, true, false, List, [], ◌∷◌, ◌++◌, length, map, Option, Some, None, is_some, refl, sym, ap, subst, ◌∙◌, append_assoc, append-nil, ⊎_elim, arith}
+use Rattle.std.proofs.Common.{◌≡◌, ℕ, suc, ◌+◌, ◌<◌, ◌≤◌, true, false, List, [], ◌∷◌, ◌++◌, length, Option, Some, None, is_some, refl, sym, ap, ◌∙◌, append_assoc, append-nil, arith}
 use Rattle.std.specs.Prelude.{codes, ◌||◌, IfSome}
 use Rattle.std.specs.Fmt.{decimal}
 use Rattle.std.specs.List.{flat_map, AllByRecursion}
 use Rattle.std.specs.Str.{bytes_eq}
-use Rattle.std.proofs.lemmas.Bool.{cond-true, false≢true, lt-ltb}
+use Rattle.std.proofs.lemmas.Bool.{cond-true, lt-ltb}
 use Rattle.std.proofs.lemmas.List.{length-append}
-use Rattle.pex_values.specs.Bits as bits_of
-use Rattle.pex_values.specs.declared.values.PexVariable.{PexVariable}
-use Rattle.pex_values.specs.declared.values.SizeForm.{SizeForm}
-use Rattle.pex_values.specs.declared.values.SizeForm.TheVariants.{Counted, Bare}
-use Rattle.pex_values.specs.Fit.{IsCounted, FitsFunction, FitsState, FitsProperty, FitsObject, FitsDebug}
+use Rattle.pex_values.specs.Fit.{FitsFunction, FitsState}
 use Rattle.pex_values.specs.Opcodes.{operands_of}
-use Rattle.pex_values.specs.Plain.{PlainInstruction, PlainFunction, PlainState, PlainProperty, PlainObject, PlainLines, PlainDebug}
-use Rattle.pex_values.specs.Shape.{ArePair, IsReference, IsShapedInstruction, IsShapedFunction, IsShapedNamed, IsShapedState, IsShapedVariable, IsShapedProperty, IsShapedObject, IsShapedLines, IsShapedDebug, IsShapedFlag}
+use Rattle.pex_values.specs.Plain.{PlainInstruction, PlainFunction, PlainState}
+use Rattle.pex_values.specs.Shape.{ArePair, IsReference, IsShapedInstruction, IsShapedFunction, IsShapedNamed, IsShapedState}
 use Rattle.pex_values.specs.Spelling as spell
-use Rattle.pex_values.proofs.Sizes.{function_size, named_size, variable_size, property_size, state_size, object_data_size, object_size, lines_size, debug_size, no_debug_size}
-use Rattle.pex_listing.specs.Breaks.{Awaited, One, Many, Form, Found, a_field, a_name, a_number, a_value, accessor_lines, asked, done, function_line, function_lines, judged, least_bytes, left_after, line_of, may_stand, numbers, object_lines, opcode_line, operands, own_variable, paid, pair_line, property_end, size_rule, some_flags, a_byte, a_time}
-use Rattle.pex_listing.specs.Lines.{number, reference}
+use Rattle.pex_values.proofs.Sizes.{function_size, named_size, state_size}
+use Rattle.pex_listing.specs.Breaks.{Awaited, One, Many, a_name, asked, done, function_line, function_lines, judged, least_bytes, left_after, line_of, may_stand, opcode_line, operands, paid, pair_line}
+use Rattle.pex_listing.specs.Lines.{reference}
 use Rattle.pex_listing.specs.Listing as form
 use Rattle.pex_listing.proofs.Cuts.{is_token}
 use Rattle.pex_listing.proofs.OneField.{decimal_token, reference_token}
-use Rattle.pex_listing.proofs.Unbroken.{number_unbroken, reference_unbroken}
+use Rattle.pex_listing.proofs.Unbroken.{reference_unbroken}
 use Rattle.listing_laws.proofs.Steps.{AreTokens, Clean, OneClean, clear, each_clean, fields_clean, none_more, row, same_awaited, same_room, same_text, weaken, word_rank}
-use Rattle.listing_laws.proofs.Forms.{datum_fields, datum_row, datum_tokens, datums_row, datums_tokens, field_so, beside, byte_rule, flags_rule, time_rule, is_opcode, number_so, opcode_among, opcode_place, opcode_rank, opcode_so, opcode_token, paid_so, tokens_both, value_so}
+use Rattle.listing_laws.proofs.Forms.{datum_fields, datums_row, datums_tokens, beside, byte_rule, flags_rule, is_opcode, opcode_among, opcode_place, opcode_rank, opcode_so, opcode_token, tokens_both}
 
 module _ (strings : List (List ℕ)) where
   abbrev spelled : ℕ → List ℕ
@@ -53,15 +49,15 @@ module _ (strings : List (List ℕ)) where
 
   param_clean : (awaited : List Awaited) → OneClean (ArePair (length strings)) (form.pair (reference strings) (codes "param")) spell.pair strings 0 (codes "param" ∷ []) refl awaited
   param_clean awaited = λ p n rest r holds few next.
-    same_text 0 (Many (codes "param" ∷ []) n ∷ awaited) strings (4 + rest) _ _ (pair_row (codes "param") p r)
-    (fields_clean 0 (Many (codes "param" ∷ []) n ∷ awaited) strings (codes "param") 4 rest [] r (omega arith) (lt-ltb n 65535 few) (reference strings p.0 ∷ reference strings p.1 ∷ []) refl (pair_tokens p holds)
-    (λ text. param_line text _ ∙ pair_form p holds) next)
+      same_text 0 (Many (codes "param" ∷ []) n ∷ awaited) strings (4 + rest) _ _ (pair_row (codes "param") p r)
+      (fields_clean 0 (Many (codes "param" ∷ []) n ∷ awaited) strings (codes "param") 4 rest [] r (omega arith) (lt-ltb n 65535 few) (reference strings p.0 ∷ reference strings p.1 ∷ []) refl (pair_tokens p holds)
+      (λ text. param_line text _ ∙ pair_form p holds) next)
 
   local_clean : (awaited : List Awaited) → OneClean (ArePair (length strings)) (form.pair (reference strings) (codes "local")) spell.pair strings 1 (codes "local" ∷ []) refl awaited
   local_clean awaited = λ p n rest r holds few next.
-    same_text 1 (Many (codes "local" ∷ []) n ∷ awaited) strings (4 + rest) _ _ (pair_row (codes "local") p r)
-    (fields_clean 1 (Many (codes "local" ∷ []) n ∷ awaited) strings (codes "local") 4 rest [] r (omega arith) (lt-ltb n 65535 few) (reference strings p.0 ∷ reference strings p.1 ∷ []) refl (pair_tokens p holds)
-    (λ text. local_line text _ ∙ pair_form p holds) (weaken 0 1 _ strings rest r (omega arith) next))
+      same_text 1 (Many (codes "local" ∷ []) n ∷ awaited) strings (4 + rest) _ _ (pair_row (codes "local") p r)
+      (fields_clean 1 (Many (codes "local" ∷ []) n ∷ awaited) strings (codes "local") 4 rest [] r (omega arith) (lt-ltb n 65535 few) (reference strings p.0 ∷ reference strings p.1 ∷ []) refl (pair_tokens p holds)
+      (λ text. local_line text _ ∙ pair_form p holds) (weaken 0 1 _ strings rest r (omega arith) next))
 
   -- ---- instructions
 
@@ -87,15 +83,15 @@ module _ (strings : List (List ℕ)) where
 
   instruction_clean : (awaited : List Awaited) → OneClean (IsShapedInstruction (length strings)) (form.instruction (reference strings)) spell.instruction strings 2 form.opcode_names refl awaited
   instruction_clean awaited = λ i n rest r holds few next.
-    let below = is_opcode i.opcode _ _ holds.operands in
-    let bytes = length (spell.instruction i) in
-    let word = form.opcode_name i.opcode in
-    let among = opcode_among i.opcode below in
-    same_text 2 (Many form.opcode_names n ∷ awaited) strings (bytes + rest) _ _ (instruction_row i r)
-    (fields_clean 2 (Many form.opcode_names n ∷ awaited) strings word bytes rest [] r (let rank = opcode_rank i.opcode below in omega arith) (cond-true _ _ _ among ∙ lt-ltb n 65535 few) (instruction_fields i) (opcode_token i.opcode below)
-    (tokens_both strings _ _ (datums_tokens strings i.fixed holds.fixed) (datums_tokens strings i.more holds.more))
-    (λ text. code_line i.opcode text _ below ∙ opcode_so strings (operands_of i.opcode) i.fixed i.more holds.operands holds.fixed holds.more ∙ ap (λ m. clear m [] []) (sym (instruction_size i)))
-    (same_awaited 0 (Many form.opcode_names (suc n) ∷ awaited) strings rest r _ (cond-true _ _ _ among) (weaken 0 2 _ strings rest r (omega arith) next)))
+      let below = is_opcode i.opcode _ _ holds.operands in
+      let bytes = length (spell.instruction i) in
+      let word = form.opcode_name i.opcode in
+      let among = opcode_among i.opcode below in
+      same_text 2 (Many form.opcode_names n ∷ awaited) strings (bytes + rest) _ _ (instruction_row i r)
+      (fields_clean 2 (Many form.opcode_names n ∷ awaited) strings word bytes rest [] r (let rank = opcode_rank i.opcode below in omega arith) (cond-true _ _ _ among ∙ lt-ltb n 65535 few) (instruction_fields i) (opcode_token i.opcode below)
+      (tokens_both strings _ _ (datums_tokens strings i.fixed holds.fixed) (datums_tokens strings i.more holds.more))
+      (λ text. code_line i.opcode text _ below ∙ opcode_so strings (operands_of i.opcode) i.fixed i.more holds.operands holds.fixed holds.more ∙ ap (λ m. clear m [] []) (sym (instruction_size i)))
+      (same_awaited 0 (Many form.opcode_names (suc n) ∷ awaited) strings rest r _ (cond-true _ _ _ among) (weaken 0 2 _ strings rest r (omega arith) next)))
 
   -- ---- functions
 
@@ -118,7 +114,7 @@ module _ (strings : List (List ℕ)) where
 
   function_form : (f : PlainFunction) → IsShapedFunction (length strings) f → function_line strings (function_fields f) ≡ clear 0 function_lines []
   function_form f shaped = λ i. judged (reference_unbroken strings f.result shaped.result i) (judged (reference_unbroken strings f.doc shaped.doc i)
-    (judged (flags_rule f.flags shaped.flags i) (judged (byte_rule f.bits shaped.bits i) (clear 0 function_lines []))))
+      (judged (flags_rule f.flags shaped.flags i) (judged (byte_rule f.bits shaped.bits i) (clear 0 function_lines []))))
 
   body_clean : (f : PlainFunction) (awaited : List Awaited) (rest : ℕ) (r : List ℕ) → IsShapedFunction (length strings) f → FitsFunction f → Clean 3 awaited strings rest r
       → Clean 0 (function_lines ++ awaited) strings (body f + rest) (behind_line f r)
@@ -185,12 +181,12 @@ module _ (strings : List (List ℕ)) where
 
   named_clean : (awaited : List Awaited) → OneClean IsNamed (form.named (reference strings)) spell.named strings 4 (codes "function" ∷ []) refl awaited
   named_clean awaited = λ f n rest r holds few next.
-    same_text 4 (Many (codes "function" ∷ []) n ∷ awaited) strings (length (spell.named f) + rest) (codes "function" ++ row ((reference strings f.0 ∷ []) ++ function_fields f.1) (behind_line f.1 r)) _ (named_row f r)
-    (same_room 4 (Many (codes "function" ∷ []) n ∷ awaited) strings (17 + (body f.1 + rest)) (codes "function" ++ row ((reference strings f.0 ∷ []) ++ function_fields f.1) (behind_line f.1 r)) (length (spell.named f) + rest) (omega (arith, named_size f, function_bytes f.1))
-    (function_clean 4 (Many (codes "function" ∷ []) n ∷ awaited) (Many (codes "function" ∷ []) (suc n) ∷ awaited) (codes "function") (reference strings f.0 ∷ []) 17 rest f.1 r (omega arith) (lt-ltb n 65535 few) refl refl
-    (reference_token strings f.0 holds.0.name, tt)
-    (λ text. named_line text _ ∙ (λ i. beside 17 (judged (reference_unbroken strings f.0 holds.0.name i) (function_form f.1 holds.0.function i))))
-    holds.0.function holds.1 (weaken 3 4 _ strings rest r (omega arith) next)))
+      same_text 4 (Many (codes "function" ∷ []) n ∷ awaited) strings (length (spell.named f) + rest) (codes "function" ++ row ((reference strings f.0 ∷ []) ++ function_fields f.1) (behind_line f.1 r)) _ (named_row f r)
+      (same_room 4 (Many (codes "function" ∷ []) n ∷ awaited) strings (17 + (body f.1 + rest)) (codes "function" ++ row ((reference strings f.0 ∷ []) ++ function_fields f.1) (behind_line f.1 r)) (length (spell.named f) + rest) (omega (arith, named_size f, function_bytes f.1))
+      (function_clean 4 (Many (codes "function" ∷ []) n ∷ awaited) (Many (codes "function" ∷ []) (suc n) ∷ awaited) (codes "function") (reference strings f.0 ∷ []) 17 rest f.1 r (omega arith) (lt-ltb n 65535 few) refl refl
+      (reference_token strings f.0 holds.0.name, tt)
+      (λ text. named_line text _ ∙ (λ i. beside 17 (judged (reference_unbroken strings f.0 holds.0.name i) (function_form f.1 holds.0.function i))))
+      holds.0.function holds.1 (weaken 3 4 _ strings rest r (omega arith) next)))
 
   -- ---- states
 
@@ -211,14 +207,14 @@ module _ (strings : List (List ℕ)) where
 
   pub state_clean : (awaited : List Awaited) → OneClean IsState (form.state (reference strings)) spell.state strings 7 (codes "state" ∷ []) refl awaited
   state_clean awaited = λ s n rest r holds few next.
-    let after = Many (codes "state" ∷ []) (suc n) ∷ awaited in
-    let behind = flat_map (form.named (reference strings)) s.functions ++ r in
-    let line = codes "state" ++ row (reference strings s.name ∷ []) behind in
-    let functions = each_clean IsNamed (form.named (reference strings)) spell.named strings 4 (codes "function" ∷ []) refl after (named_clean after) s.functions 0 rest r (both _ _ s.functions holds.0.functions holds.1.each) (omega (arith, holds.1.functions))
-    (weaken 5 7 after strings rest r (omega arith) next) in
-    same_text 7 (Many (codes "state" ∷ []) n ∷ awaited) strings (length (spell.state s) + rest) line _ (state_row s r)
-    (same_room 7 (Many (codes "state" ∷ []) n ∷ awaited) strings (4 + (length (flat_map spell.named s.functions) + rest)) line (length (spell.state s) + rest) (omega (arith, state_size s))
-    (fields_clean 7 (Many (codes "state" ∷ []) n ∷ awaited) strings (codes "state") 4 (length (flat_map spell.named s.functions) + rest) (Many (codes "function" ∷ []) 0 ∷ []) behind (omega arith) (lt-ltb n 65535 few)
-    (reference strings s.name ∷ []) refl (reference_token strings s.name holds.0.name, tt)
-    (λ text. state_line text _ ∙ (λ i. beside 4 (judged (reference_unbroken strings s.name holds.0.name i) (clear 0 (Many (codes "function" ∷ []) 0 ∷ []) []))))
-    (weaken 0 4 (Many (codes "function" ∷ []) 0 ∷ after) strings (length (flat_map spell.named s.functions) + rest) behind (omega arith) functions)))
+      let after = Many (codes "state" ∷ []) (suc n) ∷ awaited in
+      let behind = flat_map (form.named (reference strings)) s.functions ++ r in
+      let line = codes "state" ++ row (reference strings s.name ∷ []) behind in
+      let functions = each_clean IsNamed (form.named (reference strings)) spell.named strings 4 (codes "function" ∷ []) refl after (named_clean after) s.functions 0 rest r (both _ _ s.functions holds.0.functions holds.1.each) (omega (arith, holds.1.functions))
+      (weaken 5 7 after strings rest r (omega arith) next) in
+      same_text 7 (Many (codes "state" ∷ []) n ∷ awaited) strings (length (spell.state s) + rest) line _ (state_row s r)
+      (same_room 7 (Many (codes "state" ∷ []) n ∷ awaited) strings (4 + (length (flat_map spell.named s.functions) + rest)) line (length (spell.state s) + rest) (omega (arith, state_size s))
+      (fields_clean 7 (Many (codes "state" ∷ []) n ∷ awaited) strings (codes "state") 4 (length (flat_map spell.named s.functions) + rest) (Many (codes "function" ∷ []) 0 ∷ []) behind (omega arith) (lt-ltb n 65535 few)
+      (reference strings s.name ∷ []) refl (reference_token strings s.name holds.0.name, tt)
+      (λ text. state_line text _ ∙ (λ i. beside 4 (judged (reference_unbroken strings s.name holds.0.name i) (clear 0 (Many (codes "function" ∷ []) 0 ∷ []) []))))
+      (weaken 0 4 (Many (codes "function" ∷ []) 0 ∷ after) strings (length (flat_map spell.named s.functions) + rest) behind (omega arith) functions)))

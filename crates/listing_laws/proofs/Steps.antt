@@ -1,13 +1,13 @@
 -- What a line that breaks no rule leaves for those behind it.
-use Rattle.std.proofs.Common.{◌≡◌, ℕ, suc, ◌+◌, ◌-◌, ◌<◌, ◌≤◌, ◌==◌, not, Bool, true, false, cond, List, [], ◌∷◌, ◌++◌, length, Option, Some, None, refl, sym, ap, ◌∙◌, append_assoc, append-nil, ⊎_elim, arith}
-use Rattle.std.specs.Prelude.{◌&&◌, ◌||◌, codes, nat_le, nat_lt, unwrap_or}
-use Rattle.std.specs.List.{list_all, list_any, flat_map, AllByRecursion}
+use Rattle.std.proofs.Common.{◌≡◌, ℕ, suc, ◌+◌, ◌-◌, ◌<◌, ◌≤◌, ◌==◌, not, Bool, true, false, cond, List, [], ◌∷◌, ◌++◌, length, Some, None, refl, sym, ap, ◌∙◌, append_assoc, append-nil, ⊎_elim, arith}
+use Rattle.std.specs.Prelude.{◌||◌, codes, nat_lt, unwrap_or}
+use Rattle.std.specs.List.{list_all, flat_map, AllByRecursion}
 use Rattle.std.specs.Str.{bytes_eq}
 use Rattle.std.specs.Cmp.Lexicographic.{bytes_decides}
 use Rattle.std.proofs.lemmas.Bool.{and_from, and_parts, cases_Bool, cond-true, cond-false, false≢true, le-leb, lt-ltb, ltb-true, not-true}
 use Rattle.std.proofs.lemmas.List.{length-append}
-use Rattle.pex_listing.specs.Breaks.{Awaited, One, Many, Break, Found, Passed, Place, before_byte, behind_byte, behind_line, between, break_from, fields_of, first_of, is_among, left_after, line_of, line_outcome, may_end, may_stand, outcome, read_line}
-use Rattle.pex_listing.proofs.Cuts.{ends_field, is_token}
+use Rattle.pex_listing.specs.Breaks.{Awaited, One, Many, Break, Found, Passed, Place, before_byte, behind_byte, behind_line, between, break_from, fields_of, first_of, is_among, left_after, line_of, line_outcome, may_end, may_stand, read_line}
+use Rattle.pex_listing.proofs.Cuts.{is_token}
 use Rattle.pex_listing.proofs.Leaving.{between_cut, cut_behind, fields_cut}
 
 -- ---- cutting at a byte
@@ -228,19 +228,19 @@ module _ (k : ℕ) (awaited : List Awaited) (strings : List (List ℕ)) (word : 
       → line_of strings word (unwrap_or (behind_byte 32 line) []) (fields_of (behind_byte 32 line)) ≡ clear bytes inside added
       → Clean 0 (inside ++ left_after awaited word) (strings ++ added) rest r → Clean k awaited strings (bytes + rest) (line ++ 10 ∷ r)
   line_clean added line is first form next = λ pre low number.
-    line_passed (pre ++ awaited) strings word bytes rest inside added line r number is first (skip_stand k word pre awaited high low ∙ stands) form
-    ∙ ap (λ a. from (inside ++ a) (strings ++ added) rest (suc number) r) (skip_left k word pre awaited high low)
-    ∙ next [] refl (suc number)
+      line_passed (pre ++ awaited) strings word bytes rest inside added line r number is first (skip_stand k word pre awaited high low ∙ stands) form
+      ∙ ap (λ a. from (inside ++ a) (strings ++ added) rest (suc number) r) (skip_left k word pre awaited high low)
+      ∙ next [] refl (suc number)
 
   pub fields_clean : (fs : List (List ℕ)) → is_token word ≡ true → AreTokens fs → ((text : List ℕ) → line_of strings word text fs ≡ clear bytes inside [])
       → Clean 0 (inside ++ left_after awaited word) strings rest r → Clean k awaited strings (bytes + rest) (word ++ row fs r)
   fields_clean fs token each form next = λ pre low number.
-    let line = word ++ flat fs in
-    let text = unwrap_or (behind_byte 32 line) [] in
-    ap (λ t. from (pre ++ awaited) strings (bytes + rest) number t) (ap (λ t. word ++ t) (row_flat fs r) ∙ sym (append_assoc word (flat fs) (10 ∷ r)))
-    ∙ line_clean [] line (without_both 10 word (flat fs) (no_end word token) (flat_end fs each)) (word_before word fs token)
-    (ap (line_of strings word text) (fields_behind word fs token each) ∙ form text)
-    (λ before under n. ap (λ ss. from (before ++ (inside ++ left_after awaited word)) ss rest n r) (append-nil strings) ∙ next before under n) pre low number
+      let line = word ++ flat fs in
+      let text = unwrap_or (behind_byte 32 line) [] in
+      ap (λ t. from (pre ++ awaited) strings (bytes + rest) number t) (ap (λ t. word ++ t) (row_flat fs r) ∙ sym (append_assoc word (flat fs) (10 ∷ r)))
+      ∙ line_clean [] line (without_both 10 word (flat fs) (no_end word token) (flat_end fs each)) (word_before word fs token)
+      (ap (line_of strings word text) (fields_behind word fs token each) ∙ form text)
+      (λ before under n. ap (λ ss. from (before ++ (inside ++ left_after awaited word)) ss rest n r) (append-nil strings) ∙ next before under n) pre low number
 
 -- ---- parts one after another
 
@@ -248,8 +248,8 @@ module _ (k : ℕ) (awaited : List Awaited) (strings : List (List ℕ)) (word : 
 pub no_more : (k : ℕ) (words : List (List ℕ)) (n : ℕ) (awaited : List Awaited) (strings : List (List ℕ)) (room : ℕ) (text : List ℕ) → are_low (suc k) words ≡ true → Clean (suc k) awaited strings room text
     → Clean k (Many words n ∷ awaited) strings room text
 no_more k words n awaited strings room text low_words next = λ pre low number.
-  ap (λ a. from a strings room number text) (sym (append_assoc pre (Many words n ∷ []) awaited))
-  ∙ next (pre ++ Many words n ∷ []) (pre_added (suc k) pre words n (pre_more k (suc k) pre (omega arith) low) low_words) number
+    ap (λ a. from a strings room number text) (sym (append_assoc pre (Many words n ∷ []) awaited))
+    ∙ next (pre ++ Many words n ∷ []) (pre_added (suc k) pre words n (pre_more k (suc k) pre (omega arith) low) low_words) number
 
 module _ {X : Type 0} (Holds : X → Type 0) (text bytes : X → List ℕ) (strings : List (List ℕ)) (k : ℕ) (words : List (List ℕ)) (low_words : are_low (suc k) words ≡ true) (awaited : List Awaited) where
   abbrev pub OneClean : Type 0
@@ -260,7 +260,7 @@ module _ {X : Type 0} (Holds : X → Type 0) (text bytes : X → List ℕ) (stri
   each_clean one [] n rest r each few next =
       same_room k (Many words n ∷ awaited) strings rest r (0 + rest) (sym (none_more rest)) (no_more k words n awaited strings rest r low_words next)
   each_clean one (x ∷ xs) n rest r each few next = λ pre low number.
-    let room : length (bytes x ++ flat_map bytes xs) + rest ≡ length (bytes x) + (length (flat_map bytes xs) + rest) = omega (arith, length-append (bytes x) (flat_map bytes xs)) in
-    ap (λ m. from (pre ++ (Many words n ∷ awaited)) strings m number ((text x ++ flat_map text xs) ++ r)) room
-    ∙ ap (λ t. from (pre ++ (Many words n ∷ awaited)) strings (length (bytes x) + (length (flat_map bytes xs) + rest)) number t) (append_assoc (text x) (flat_map text xs) r)
-    ∙ one x n (length (flat_map bytes xs) + rest) (flat_map text xs ++ r) each.0 (omega (arith, few)) (each_clean one xs (suc n) rest r each.1 (omega (arith, few)) next) pre low number
+      let room : length (bytes x ++ flat_map bytes xs) + rest ≡ length (bytes x) + (length (flat_map bytes xs) + rest) = omega (arith, length-append (bytes x) (flat_map bytes xs)) in
+      ap (λ m. from (pre ++ (Many words n ∷ awaited)) strings m number ((text x ++ flat_map text xs) ++ r)) room
+      ∙ ap (λ t. from (pre ++ (Many words n ∷ awaited)) strings (length (bytes x) + (length (flat_map bytes xs) + rest)) number t) (append_assoc (text x) (flat_map text xs) r)
+      ∙ one x n (length (flat_map bytes xs) + rest) (flat_map text xs ++ r) each.0 (omega (arith, few)) (each_clean one xs (suc n) rest r each.1 (omega (arith, few)) next) pre low number

@@ -1,9 +1,8 @@
 -- A listing breaks no rule, and so its value comes back.
-use Rattle.std.proofs.Common.{◌≡◌, ℕ, zero, suc, ◌+◌, ◌<◌, ◌≤◌, ◌^◌, ◌-◌, Bool, true, false, List, [], ◌∷◌, ◌++◌, length, Option, Some, None, refl, sym, ap, ◌∙◌, append_assoc, append-nil, ⊎_elim, arith}
+use Rattle.std.proofs.Common.{◌≡◌, ℕ, suc, ◌+◌, ◌<◌, ◌≤◌, ◌^◌, ◌-◌, true, List, [], ◌∷◌, ◌++◌, length, Some, None, refl, sym, ap, ◌∙◌, append_assoc, append-nil, ⊎_elim, arith}
 use Rattle.std.specs.Prelude.{codes, ◌⊎◌, option_map, unwrap_or, IfOk, Result, Ok, Err}
 use Rattle.std.specs.Fmt.{decimal}
 use Rattle.std.specs.List.{flat_map, AllByRecursion}
-use Rattle.std.specs.Str.{bytes_eq}
 use Rattle.std.specs.Cmp.Lexicographic.{bytes_decides}
 use Rattle.std.proofs.lemmas.Bool.{agree_below_at, cond-true, lt-ltb}
 use Rattle.std.proofs.lemmas.List.{length-append}
@@ -14,8 +13,8 @@ use Rattle.pex_values.specs.Shape.{IsShapedFlag, IsWellShaped}
 use Rattle.pex_values.specs.Spelling as spell
 use Rattle.pex_values.proofs.Sizes.{spelling_size}
 use Rattle.pex_listing.specs.Assembled.{TellsBreak, told_line}
-use Rattle.pex_listing.specs.Breaks.{Awaited, One, Many, Found, a_number, a_string, a_time, all_parts, behind_byte, before_byte, debug_line, done, fields_of, is_added, judged, line_of, list_break, not_added, number_rule, paid, string_by, string_in, unless_spelled}
-use Rattle.pex_listing.specs.Lines.{escaped, first_line, header_lines, quoted, reference, string_line, table_lines}
+use Rattle.pex_listing.specs.Breaks.{left_after, may_stand, Awaited, One, Many, a_number, a_string, a_time, all_parts, behind_byte, debug_line, done, fields_of, is_added, judged, line_of, list_break, not_added, number_rule, paid, string_by, string_in}
+use Rattle.pex_listing.specs.Lines.{escaped, first_line, quoted, reference, string_line, table_lines}
 use Rattle.pex_listing.specs.Listing as form
 use Rattle.pex_listing.specs.declared.faults.ListingRule.{ListingRule}
 use Rattle.pex_listing.specs.declared.faults.ListingFault.{ListingFault}
@@ -23,7 +22,7 @@ use Rattle.pex_listing.specs.declared.faults.ListingFault.TheVariants.{Broken, O
 use Rattle.pex_listing.proofs.OneField.{decimal_token}
 use Rattle.pex_listing.proofs.Unbroken.{number_unbroken, quoted_unbroken}
 use Rattle.listing_laws.specs.Round.{AreBytes, GivesBack, HasBytes}
-use Rattle.listing_laws.proofs.Steps.{AreTokens, Clean, before_at, behind_at, clear, each_clean, end_clean, fields_clean, line_clean, no_more, none_more, row, same_room, same_strings, same_text, weaken, without, without_both, word_rank}
+use Rattle.listing_laws.proofs.Steps.{from, Clean, before_at, behind_at, clear, each_clean, end_clean, fields_clean, line_clean, no_more, none_more, row, same_room, same_strings, same_text, weaken, without, without_both, word_rank}
 use Rattle.listing_laws.proofs.Forms.{beside, time_rule}
 use Rattle.listing_laws.proofs.Parts.{both}
 use Rattle.listing_laws.proofs.Members.{IsObject, object_clean}
@@ -71,18 +70,18 @@ module _ (strings : List (List ℕ)) where
   pex_text text fs = refl
 
 -- a line with a string, at the head of what is awaited
-module _ (k : ℕ) (before after : List Awaited) (strings : List (List ℕ)) (word : List ℕ) (adds : List ℕ → List (List ℕ)) (beside_it : ℕ) (no_space : without 32 word ≡ true) (no_end : without 10 word ≡ true) (high : k ≤ word_rank word) where
-  text_clean : (t r : List ℕ) (rest : ℕ) → AreBytes t → length t < 65536 → (may : Rattle.pex_listing.specs.Breaks.may_stand before word ≡ true) → Rattle.pex_listing.specs.Breaks.left_after before word ≡ after
-      → ((text : List ℕ) (fs : List (List ℕ)) → line_of strings word text fs ≡ paid beside_it (a_string adds text) fs)
-      → Clean 0 after (strings ++ adds t) rest r → Clean k before strings ((beside_it + length t) + rest) (string_line word t ++ r)
+module _ (k : ℕ) (before after : List Awaited) (strings : List (List ℕ)) (word : List ℕ) (adds : List ℕ → List (List ℕ)) (least : ℕ) (no_space : without 32 word ≡ true) (no_end : without 10 word ≡ true) (high : k ≤ word_rank word) where
+  text_clean : (t r : List ℕ) (rest : ℕ) → AreBytes t → length t < 65536 → may_stand before word ≡ true → left_after before word ≡ after
+      → ((text : List ℕ) (fs : List (List ℕ)) → line_of strings word text fs ≡ paid least (a_string adds text) fs)
+      → Clean 0 after (strings ++ adds t) rest r → Clean k before strings ((least + length t) + rest) (string_line word t ++ r)
   text_clean t r rest bytes short may left form next =
       let line = word ++ 32 ∷ quoted t in
       let behind = behind_at 32 word (quoted t) refl no_space in
       let fs = fields_of (behind_byte 32 line) in
-      same_text k before strings ((beside_it + length t) + rest) (line ++ 10 ∷ r) (string_line word t ++ r) (string_row word t r)
-      (line_clean k before strings word (beside_it + length t) rest [] r high may (adds t) line (without_both 10 word (32 ∷ quoted t) no_end (quoted_end t bytes)) (before_at 32 word (quoted t) refl no_space)
-      (ap (λ o. line_of strings word (unwrap_or o []) fs) behind ∙ form (quoted t) fs ∙ ap (beside beside_it) (string_so adds t bytes short))
-      (λ pre low number. ap (λ a. Rattle.listing_laws.proofs.Steps.from (pre ++ a) (strings ++ adds t) rest number r) left ∙ next pre low number))
+      same_text k before strings ((least + length t) + rest) (line ++ 10 ∷ r) (string_line word t ++ r) (string_row word t r)
+      (line_clean k before strings word (least + length t) rest [] r high may (adds t) line (without_both 10 word (32 ∷ quoted t) no_end (quoted_end t bytes)) (before_at 32 word (quoted t) refl no_space)
+      (ap (λ o. line_of strings word (unwrap_or o []) fs) behind ∙ form (quoted t) fs ∙ ap (beside least) (string_so adds t bytes short))
+      (λ pre low number. ap (λ a. from (pre ++ a) (strings ++ adds t) rest number r) left ∙ next pre low number))
 
 -- ---- the string table
 
