@@ -1,4 +1,4 @@
--- The parts of a listing behind its string table break no rule.
+-- Instructions, functions and states of a listing break no rule.
 use Rattle.std.proofs.Common.{◌≡◌, ℕ, suc, ◌+◌, ◌<◌, ◌≤◌, true, false, List, [], ◌∷◌, ◌++◌, length, Option, Some, None, is_some, refl, sym, ap, ◌∙◌, append_assoc, append-nil, arith}
 use Rattle.std.specs.Prelude.{codes, ◌||◌, IfSome}
 use Rattle.std.specs.Fmt.{decimal}
@@ -9,7 +9,7 @@ use Rattle.std.proofs.lemmas.List.{length-append}
 use Rattle.pex_values.specs.Fit.{FitsFunction, FitsState}
 use Rattle.pex_values.specs.Opcodes.{operands_of}
 use Rattle.pex_values.specs.Plain.{PlainInstruction, PlainFunction, PlainState}
-use Rattle.pex_values.specs.Shape.{ArePair, IsReference, IsShapedInstruction, IsShapedFunction, IsShapedNamed, IsShapedState}
+use Rattle.pex_values.specs.Shape.{ArePair, IsShapedInstruction, IsShapedFunction, IsShapedNamed, IsShapedState}
 use Rattle.pex_values.specs.Spelling as spell
 use Rattle.pex_values.proofs.Sizes.{function_size, named_size, state_size}
 use Rattle.pex_listing.specs.Breaks.{Awaited, One, Many, a_name, asked, done, function_line, function_lines, judged, least_bytes, left_after, line_of, may_stand, opcode_line, operands, paid, pair_line}
@@ -22,12 +22,6 @@ use Rattle.listing_laws.proofs.Steps.{AreTokens, Clean, OneClean, clear, each_cl
 use Rattle.listing_laws.proofs.Forms.{datum_fields, datums_row, datums_tokens, beside, byte_rule, flags_rule, is_opcode, opcode_among, opcode_place, opcode_rank, opcode_so, opcode_token, tokens_both}
 
 module _ (strings : List (List ℕ)) where
-  abbrev spelled : ℕ → List ℕ
-  spelled = reference strings
-
-  abbrev known : ℕ → Type 0
-  known p = IsReference (length strings) p
-
   -- ---- parameters and locals
 
   pair_row : (word : List ℕ) (p : ℕ × ℕ) (r : List ℕ) → form.pair (reference strings) word p ++ r ≡ word ++ row (reference strings p.0 ∷ reference strings p.1 ∷ []) r
@@ -119,10 +113,12 @@ module _ (strings : List (List ℕ)) where
   body_clean : (f : PlainFunction) (awaited : List Awaited) (rest : ℕ) (r : List ℕ) → IsShapedFunction (length strings) f → FitsFunction f → Clean 3 awaited strings rest r
       → Clean 0 (function_lines ++ awaited) strings (body f + rest) (behind_line f r)
   body_clean f awaited rest r shaped fits next =
-      let code : Clean 2 (Many form.opcode_names 0 ∷ awaited) strings (length (flat_map spell.instruction f.code) + rest) (flat_map (form.instruction (reference strings)) f.code ++ r) = each_clean (IsShapedInstruction (length strings)) (form.instruction (reference strings)) spell.instruction strings 2 form.opcode_names refl awaited (instruction_clean awaited) f.code 0 rest r shaped.code (omega (arith, fits.code)) next in
+      let code : Clean 2 (Many form.opcode_names 0 ∷ awaited) strings (length (flat_map spell.instruction f.code) + rest) (flat_map (form.instruction (reference strings)) f.code ++ r) =
+      each_clean (IsShapedInstruction (length strings)) (form.instruction (reference strings)) spell.instruction strings 2 form.opcode_names refl awaited (instruction_clean awaited) f.code 0 rest r shaped.code (omega (arith, fits.code)) next in
       let to_code = flat_map (form.instruction (reference strings)) f.code ++ r in
       let code_room = length (flat_map spell.instruction f.code) + rest in
-      let locals : Clean 1 (Many (codes "local" ∷ []) 0 ∷ Many form.opcode_names 0 ∷ awaited) strings (length (flat_map spell.pair f.locals) + code_room) (flat_map (form.pair (reference strings) (codes "local")) f.locals ++ to_code) = each_clean (ArePair (length strings)) (form.pair (reference strings) (codes "local")) spell.pair strings 1 (codes "local" ∷ []) refl _ (local_clean _) f.locals 0 _ _ shaped.locals (omega (arith, fits.locals)) code in
+      let locals : Clean 1 (Many (codes "local" ∷ []) 0 ∷ Many form.opcode_names 0 ∷ awaited) strings (length (flat_map spell.pair f.locals) + code_room) (flat_map (form.pair (reference strings) (codes "local")) f.locals ++ to_code) =
+      each_clean (ArePair (length strings)) (form.pair (reference strings) (codes "local")) spell.pair strings 1 (codes "local" ∷ []) refl _ (local_clean _) f.locals 0 _ _ shaped.locals (omega (arith, fits.locals)) code in
       let parameters = each_clean (ArePair (length strings)) (form.pair (reference strings) (codes "param")) spell.pair strings 0 (codes "param" ∷ []) refl _ (param_clean _) f.parameters 0 _ _ shaped.parameters (omega (arith, fits.parameters)) locals in
       same_room 0 (function_lines ++ awaited) strings _ (behind_line f r) (body f + rest) (omega arith) parameters
 

@@ -1,10 +1,10 @@
 -- A listing breaks no rule, and so its value comes back.
-use Rattle.std.proofs.Common.{◌≡◌, ℕ, suc, ◌+◌, ◌<◌, ◌≤◌, ◌^◌, ◌-◌, true, List, [], ◌∷◌, ◌++◌, length, Some, None, refl, sym, ap, ◌∙◌, append_assoc, append-nil, ⊎_elim, arith}
-use Rattle.std.specs.Prelude.{codes, ◌⊎◌, option_map, unwrap_or, IfOk, Result, Ok, Err}
+use Rattle.std.proofs.Common.{◌≡◌, ℕ, suc, ◌+◌, ◌<◌, ◌≤◌, ◌^◌, ◌-◌, true, List, [], ◌∷◌, ◌++◌, length, None, refl, sym, ap, ◌∙◌, append_assoc, append-nil, ⊎_elim, arith}
+use Rattle.std.specs.Prelude.{is_some, codes, ◌⊎◌, option_map, unwrap_or, IfOk, Result, Ok, Err}
 use Rattle.std.specs.Fmt.{decimal}
 use Rattle.std.specs.List.{flat_map, AllByRecursion}
 use Rattle.std.specs.Cmp.Lexicographic.{bytes_decides}
-use Rattle.std.proofs.lemmas.Bool.{agree_below_at, cond-true, lt-ltb}
+use Rattle.std.proofs.lemmas.Bool.{false≢true, agree_below_at, cond-true, lt-ltb}
 use Rattle.std.proofs.lemmas.List.{length-append}
 use Rattle.pex_values.specs.declared.values.Pex.{Pex}
 use Rattle.pex_values.specs.Fit.{IsCounted, Fits}
@@ -186,5 +186,6 @@ unbroken v shaped fits bytes =
 pub gives_back : (v : PlainPex) (result : Result Pex ListingFault) → ((w : Pex) → IsWellShaped (plain w) → form.listing v ≡ form.listing (plain w) → v ≡ plain w) → list_break (form.listing v) ≡ None
     → IfOk result (λ w. IsWellShaped (plain w)) → IfOk result (λ w. form.listing v ≡ form.listing (plain w)) → TellsBreak (list_break (form.listing v)) result → GivesBack v result
 gives_back v (Ok w) one whole shaped same told = sym (one w shaped same)
-gives_back v (Err (Broken line rule)) one whole shaped same told = let no : None ≡ Some (line, rule) = ap (λ b. option_map {U = ℕ × ListingRule} (λ x. (told_line x.0, x.1)) b) (sym whole) ∙ told in absurd cc
+gives_back v (Err (Broken line rule)) one whole shaped same told =
+    absurd (false≢true (ap is_some (ap (λ b. option_map {U = ℕ × ListingRule} (λ x. (told_line x.0, x.1)) b) (sym whole) ∙ told)))
 gives_back v (Err OutOfMemory) one whole shaped same told = tt
