@@ -73,8 +73,8 @@ returns-in-Ok-write_sources-clause-holds g c =
 
 -- ---- sources that were not all written
 
-pub returns-in-Err-write_sources-clause-holds : goal.returns-in-Err-write_sources-clause-holds
-returns-in-Err-write_sources-clause-holds g c =
+pub returns-clause-holds : goal.returns-clause-holds
+returns-clause-holds g c =
     let names = map string_bytes c.args.files.now in
     let lifts = rw c.in-Ok-found.is at c.lifted-found.ensures in
     let same : length names ≡ length c.args.files.now = length-map c.args.files.now string_bytes in
