@@ -10,7 +10,7 @@ use Rattle.papyrus_cmd.specs.declared.command.PlayCommand.TheVariants as play
 use Rattle.command_files.specs.declared.ending.Ending.{Ending}
 use Rattle.command_files.specs.declared.ending.Ending.TheVariants.{Done, OutOfMemory, Usage, ReadFault, WriteFault, Refused, NotBuilt}
 use Rattle.pex_codec.specs.Decoding.{IsSpelling}
-use Rattle.papyrus_cmd.specs.Asm.{RefusesListing}
+use Rattle.papyrus_cmd.specs.Asm.{IsUnbroken, RefusesListing}
 use Rattle.papyrus_cmd.specs.Check.{accepted_line}
 use Rattle.papyrus_cmd.specs.Command.{command_of}
 use Rattle.papyrus_cmd.specs.Show.{Lists}
@@ -67,7 +67,7 @@ ShowAnswers bytes WriteFault text = ⊥
 
 -- how `asm` ends on a listing; it writes nothing to `out`
 abbrev pub AsmAnswers : List ℕ → Ending → List ℕ → Type 0
-AsmAnswers listing Done text = text ≡ []
+AsmAnswers listing Done text = IsUnbroken listing × (text ≡ [])
 AsmAnswers listing (Refused word place rule) text = (word ≡ 1) × RefusesListing listing place rule × (text ≡ [])
 AsmAnswers listing NotBuilt text = ⊥
 AsmAnswers listing OutOfMemory text = ⊥

@@ -1,11 +1,12 @@
 -- What `asm` reads and leaves.
-use Rattle.std.specs.Prelude.{◌≡◌, ◌⊎◌, ℕ, ◌<◌, List, length, Option, None, Some, Result, Ok, Err, IfSome}
+use Rattle.std.specs.Prelude.{◌≡◌, ◌⊎◌, ℕ, nat_lt, List, length, Option, None, Some, Result, Ok, Err, IfSome, if◌then◌else◌}
 use Rattle.std.specs.declared.alloc.Global.{Global}
 use Rattle.std.specs.declared.vec.Vec.{Vec}
 use Rattle.papy_io.specs.Files.{Files, told_bytes, ChangesTold}
 use Rattle.papy_io.specs.WriteFile.{HoldsNow, MayHold}
 use Rattle.pex_codec.specs.Spells.{Spells}
 use Rattle.pex_values.specs.Plain.{PlainPex}
+use Rattle.pex_listing.specs.Breaks.{Break, list_break}
 use Rattle.pex_listing.specs.Listing.{listing as listing_of}
 use Rattle.pex_listing.specs.declared.faults.ListingRule.{ListingRule}
 use Rattle.pex_listing.specs.declared.faults.ListingRule.TheVariants.{BadLine}
@@ -33,9 +34,25 @@ pub record IsAssembled (source : List ℕ) (holds : Option Files) (bytes : List 
   pub spelled : Spells value bytes
   pub listed : IfSome holds (HoldsListing source value)
 
--- a line and a rule of listings
-abbrev pub IsListingRefusal : Place → Rule → Type 0
-IsListingRefusal place rule = (line : ℕ) × (broken : ListingRule) × (place ≡ Line line) × (rule ≡ Listing broken)
+-- the first rule that a text breaks, with its line: one of more than 128 MiB breaks G1 at line 0, whatever else it breaks
+abbrev pub first_break : List ℕ → Break
+first_break text = if nat_lt limit (length text) then Some (0, BadLine) else list_break text
+
+-- the break is told as this place and this rule
+pub record IsBreakAt (first : Break) (place : Place) (rule : Rule) : Type 0 where
+  pub line : ℕ
+  pub broken : ListingRule
+  pub place_is : place ≡ Line line
+  pub rule_is : rule ≡ Listing broken
+  pub first_is : first ≡ Some (line, broken)
+
+-- the text is refused so, by the first rule that it breaks
+abbrev pub RefusesListing : List ℕ → Place → Rule → Type 0
+RefusesListing text place rule = IsBreakAt (first_break text) place rule
+
+-- the text breaks no rule
+abbrev pub IsUnbroken : List ℕ → Type 0
+IsUnbroken text = first_break text ≡ None
 
 -- a value, spelled
 abbrev pub SpellsValue : PlainPex → Result (Vec ℕ Global) FileFault → Type 0
@@ -44,22 +61,17 @@ SpellsValue value (Err OutOfMemory) = Unit {0}
 SpellsValue value (Err (Refused place rule)) = ⊥
 SpellsValue value (Err ReadFault) = ⊥
 
--- a listing, assembled or refused
+-- a listing, assembled where it breaks no rule, or refused by the first that it breaks
 abbrev pub Assembles : List ℕ → Result (Vec ℕ Global) FileFault → Type 0
-Assembles text (Ok bytes) = Lists bytes.items text
-Assembles text (Err (Refused place rule)) = IsListingRefusal place rule
+Assembles text (Ok bytes) = Lists bytes.items text × (list_break text ≡ None)
+Assembles text (Err (Refused place rule)) = IsBreakAt (list_break text) place rule
 Assembles text (Err OutOfMemory) = Unit {0}
 Assembles text (Err ReadFault) = ⊥
-
--- a text is refused so: one of more than 128 MiB at line 0, whatever else it breaks
-pub record RefusesListing (text : List ℕ) (place : Place) (rule : Rule) : Type 0 where
-  pub listing : IsListingRefusal place rule
-  pub too_large : limit < length text → (place ≡ Line 0) × (rule ≡ Listing BadLine)
 
 -- what reading the listing of this name gives
 abbrev pub ReadsListing : Option Files → List ℕ → Result (Vec ℕ Global) FileFault → Type 0
 ReadsListing None name result = Unit {0}
-ReadsListing (Some files) name (Ok bytes) = (text : List ℕ) × (told_bytes (Some files) name ≡ Some text)
+ReadsListing (Some files) name (Ok bytes) = (text : List ℕ) × (told_bytes (Some files) name ≡ Some text) × IsUnbroken text
 ReadsListing (Some files) name (Err (Refused place rule)) = (text : List ℕ) × (told_bytes (Some files) name ≡ Some text) × RefusesListing text place rule
 ReadsListing (Some files) name (Err ReadFault) = Unit {0}
 ReadsListing (Some files) name (Err OutOfMemory) = Unit {0}

@@ -51,6 +51,7 @@ fn spelled(alloc: Global, value: &Pex) -> Result<Vec<u8>, FileFault>
 
 /// The bytes of the file that a listing lists.
 fn file_of(alloc: Global, text: &[u8]) -> Result<Vec<u8>, FileFault>
+    requires { length text.now ≤ 134217728 }
     ensures { Assembles text.now result }
 {
     match assemble(alloc, text) {
