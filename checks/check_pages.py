@@ -122,7 +122,7 @@ def words_of_crate(crate):
 def promise_fault(name, crate, file, crates):
     """Why a definition isn't one that these crates cite from a file of a crate, or nothing."""
     text = (ROOT / "crates" / crate / "specs" / f"{file}.antt").read_text()
-    if name not in (file, crate) and not re.search(rf"^(?:\w+ )*pub (?:\w+ )?{name}\b", text, re.MULTILINE):
+    if name not in (file, crate) and not re.search(rf"^ *(?:\w+ )*pub (?:\w+ )?{name}\b", text, re.MULTILINE):
         return "isn't defined there"
     module = rf"Rattle\.{crate}\.specs\.{file}\b"
     return "" if crate in crates or any(re.search(module, words_of_crate(one)) for one in crates) else "isn't what the crate cites"
